@@ -1,0 +1,9 @@
+pub mod Books
+pub mod Commands
+pub mod Grammar
+pub mod Keywords
+pub mod Limits
+pub mod Lines
+pub mod Numbers
+pub mod Operands
+pub mod Words

@@ -1,0 +1,136 @@
+// The built-in task: the morning of one recipe that needs shop and lab together.
+use book::entry::BLANK;
+use book::entry::Standing;
+use book::filing::Book;
+use book::ledger::Ledger;
+use book::ledger::LedgerBook;
+use book::ledger::LedgerRegister;
+use book::register::Register;
+use console::listing::live_entries;
+use gate::gate::Gate;
+use std::error::AnyError;
+use terms::denial::Denial;
+use terms::words::DenialDisplay;
+
+// A row to name, and what it says.
+struct Row {
+    form: u8,
+    x: u16,
+    y: u16,
+    words: &'static str,
+}
+
+const PRINCIPALS: [Row; 4] = [
+    Row { form: 1, x: 0, y: 0, words: "Shop" },
+    Row { form: 1, x: 1, y: 0, words: "Lab" },
+    Row { form: 2, x: 0, y: 1, words: "Shop & Lab" },
+    Row { form: 3, x: 0, y: 1, words: "Shop quoting Lab" },
+];
+
+const STATEMENTS: [Row; 10] = [
+    Row { form: 1, x: 0, y: 0, words: "this recipe may be poured (request 0)" },
+    Row { form: 4, x: 2, y: 0, words: "Shop & Lab says that it may be poured" },
+    Row { form: 2, x: 0, y: 0, words: "it may not be poured" },
+    Row { form: 3, x: 1, y: 2, words: "Shop & Lab says that it may be poured, and it may not" },
+    Row { form: 2, x: 3, y: 0, words: "Shop & Lab controls it: what they say together about it holds" },
+    Row { form: 4, x: 0, y: 0, words: "Shop says that it may be poured" },
+    Row { form: 4, x: 1, y: 0, words: "Lab says that it may be poured" },
+    Row { form: 4, x: 0, y: 6, words: "Shop says that Lab says that it may be poured" },
+    Row { form: 5, x: 0, y: 0, words: "Shop speaks for Shop" },
+    Row { form: 4, x: 3, y: 0, words: "Shop quoting Lab says that it may be poured" },
+];
+
+// A row's number, or why it was not named.
+fn tell_row(rt: &LibcRuntime, kind: &str, words: &str, answer: Result<u16, Denial>) -> Result<(), AnyError> {
+    match answer {
+        Ok(row) => println!(rt, "  {kind} {row}: {words}.")?,
+        Err(denial) => println!(rt, "  {words}: {denial}.")?,
+    }
+    Ok(())
+}
+
+// Names all rows of the morning.
+fn name_rows<B: Book>(rt: &LibcRuntime, gate: &mut Gate<B>) -> Result<(), AnyError>
+    requires { ⌜ B·Register .sound (now gate .book) ⌝ }
+    ensures sound { λ _. ⌜ B·Register .sound (now (gate .exit) .book) ⌝ }
+{
+    println!(rt, "The gate names whom and what the morning is about.")?;
+    for row in &PRINCIPALS {
+        tell_row(rt, "principal", row.words, gate.principal(row.form, row.x, row.y))?;
+    }
+    for row in &STATEMENTS {
+        tell_row(rt, "statement", row.words, gate.statement(row.form, row.x, row.y))?;
+    }
+    Ok(())
+}
+
+// Files an entry and tells what came of it.
+fn file<B: Book>(rt: &LibcRuntime, gate: &mut Gate<B>, serial: u16, standing: u8, row: u16) -> Result<(), AnyError>
+    requires { ⌜ B·Register .sound (now gate .book) ⌝ }
+    ensures sound { λ _. ⌜ B·Register .sound (now (gate .exit) .book) ⌝ }
+{
+    let kind = if standing == 1 { "rule" } else { "saying" };
+    match gate.file(serial, standing, row) {
+        Ok(()) => println!(rt, "  serial {serial}: statement {row} is filed as a {kind}.")?,
+        Err(denial) => println!(rt, "  serial {serial}: statement {row} as a {kind} is {denial}.")?,
+    }
+    Ok(())
+}
+
+// Strikes a serial and tells what came of it.
+fn strike<B: Book>(rt: &LibcRuntime, gate: &mut Gate<B>, serial: u16) -> Result<(), AnyError>
+    requires { ⌜ B·Register .sound (now gate .book) ⌝ }
+    ensures sound { λ _. ⌜ B·Register .sound (now (gate .exit) .book) ⌝ }
+{
+    match gate.strike(serial) {
+        Ok(()) => println!(rt, "  serial {serial} is struck.")?,
+        Err(denial) => println!(rt, "  serial {serial} is {denial}.")?,
+    }
+    Ok(())
+}
+
+// Tells what is live.
+fn show_book<B: Book>(rt: &LibcRuntime, gate: &Gate<B>) -> Result<(), AnyError>
+    requires { ⌜ B·Register .sound (now gate .book) ⌝ }
+{
+    println!(rt, "The book now holds:")?;
+    let entries = live_entries(rt.alloc(), gate)?;
+    for entry in entries.iter() {
+        let serial = entry.serial;
+        let row = entry.row;
+        match entry.standing {
+            Standing::Rule => println!(rt, "  serial {serial}: statement {row}, a rule.")?,
+            Standing::Saying => println!(rt, "  serial {serial}: statement {row}, a saying.")?,
+        }
+    }
+    Ok(())
+}
+
+// The rule and the two sayings are filed, a fourth finds no place, and one is struck to make room.
+fn keep_the_book<B: Book>(rt: &LibcRuntime, gate: &mut Gate<B>) -> Result<(), AnyError>
+    requires { ⌜ B·Register .sound (now gate .book) ⌝ }
+    ensures sound { λ _. ⌜ B·Register .sound (now (gate .exit) .book) ⌝ }
+{
+    println!(rt, "The paint house files its rule, and shop and lab file what they say.")?;
+    file(rt, gate, 1, 1, 4)?;
+    file(rt, gate, 2, 2, 5)?;
+    file(rt, gate, 3, 2, 6)?;
+    println!(rt, "The ledger's three records are used. A fourth entry finds no place.")?;
+    file(rt, gate, 4, 2, 7)?;
+    show_book(rt, gate)?;
+    println!(rt, "The lab takes its saying back, which makes room.")?;
+    strike(rt, gate, 3)?;
+    file(rt, gate, 4, 2, 7)?;
+    show_book(rt, gate)
+}
+
+// Tells the whole task, from an empty ledger of three records on.
+pub fn tell(rt: &LibcRuntime) -> Result<(), AnyError> {
+    println!(rt, "The morning of one recipe that needs shop and lab together.")?;
+    let mut records = [BLANK; 3];
+    let mut gate = Gate::new(7, Ledger::new(&mut records));
+    let number = gate.number();
+    println!(rt, "Gate {number} opens with an empty ledger of three records.")?;
+    name_rows(rt, &mut gate)?;
+    keep_the_book(rt, &mut gate)
+}

@@ -1,0 +1,8 @@
+pub mod Denials
+pub mod Rows
+pub mod Naming
+pub mod Tables
+pub mod Written
+pub mod Truth
+pub mod Laws
+pub mod Named
