@@ -28,14 +28,12 @@ pub struct Answers {
 }
 
 // Holds the law of piles for every book.
-pub fn piles_hold() -> bool
-    ensures { λ _. ⌜ Piled ⌝ }
-{
-    true
-}
+pub fn piles_hold()
+    ensures piled { λ _. ⌜ Piled ⌝ }
+{}
 
 // Puts the four questions to a book.
-pub fn ask<B: Book>(book: &mut B, entry: Entry, other: Entry) -> Answers
+fn ask<B: Book>(book: &mut B, entry: Entry, other: Entry) -> Answers
     requires { ⌜ B·Register .sound (now book) ⌝ }
     ensures sound { λ _. ⌜ B·Register .sound (now (book .exit)) ⌝ }
     ensures answer { λ r. ⌜ r ≡ asked (means (B·Register .live (now (book .entry))) (B·Book .barred (now (book .entry))) (B·Book .free (now (book .entry)))) entry other ⌝ }
@@ -65,7 +63,7 @@ fn sheet_of(serial: u16) -> Sheet
 
 // Lays sheets with serials 5 and 6 over a ledger that holds serial 5, and asks the pile for 5 and for 7.
 pub fn worked_pile() -> Answers
-    ensures { λ r. ⌜ Worked-pile r ⌝ }
+    ensures answers { λ r. ⌜ Worked-pile r ⌝ }
 {
     let rule = Entry {
         serial: 5,

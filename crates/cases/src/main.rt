@@ -7,7 +7,14 @@ use std::error::AnyError;
 use std::fs;
 
 // Each has a job and its expected answers under this name.
-const CASES: [&str; 6] = ["naming-1", "naming-2", "naming-3", "books", "lines", "limits"];
+const CASES: [&str; 6] = [
+    "naming-1",
+    "naming-2",
+    "naming-3",
+    "books",
+    "lines",
+    "limits",
+];
 
 // An answer without its explanation, which stands behind a blank in parentheses.
 fn plain(answer: &[u8]) -> &[u8] {
@@ -26,7 +33,12 @@ fn read(rt: &LibcRuntime, name: &str, ending: &str) -> Result<Vec<u8>, AnyError>
 }
 
 // What follows the expected answer to the line, or what was answered in its place.
-fn expect<'a>(rt: &LibcRuntime, number: u64, said: &str, expected: &'a [u8]) -> Result<&'a [u8], AnyError> {
+fn expect<'a>(
+    rt: &LibcRuntime,
+    number: u64,
+    said: &str,
+    expected: &'a [u8],
+) -> Result<&'a [u8], AnyError> {
     match next_line(expected) {
         Some((wanted, after)) => {
             if plain(said.as_bytes()) == wanted {
@@ -40,7 +52,13 @@ fn expect<'a>(rt: &LibcRuntime, number: u64, said: &str, expected: &'a [u8]) -> 
 }
 
 // Does one line and compares its answer, if it has one; answers what is expected of the lines after it.
-fn compare<'a>(rt: &LibcRuntime, console: &mut Console, number: u64, line: &[u8], expected: &'a [u8]) -> Result<&'a [u8], AnyError>
+fn compare<'a>(
+    rt: &LibcRuntime,
+    console: &mut Console,
+    number: u64,
+    line: &[u8],
+    expected: &'a [u8],
+) -> Result<&'a [u8], AnyError>
     requires { ⌜ Console-sound (now console) ⌝ }
     ensures sound { λ _. ⌜ Console-sound (now (console .exit)) ⌝ }
 {

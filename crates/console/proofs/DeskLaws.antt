@@ -28,7 +28,7 @@ use Rattle.console.specs.Piles.{Pile, Pile-sound, pile-state}
 pub sound-push : (gs : List (Gate Pile)) (g : Gate Pile) → All-sound gs → Pile-sound (g .book) → All-sound (gs ++ (g ∷ []))
 sound-push gs g all here k x e =
     elim (nth-push gs g k x e) [
-        inl old ↦ all k x old
+      | inl old ↦ all k x old
       | inr last ↦ subst (λ y. Pile-sound (y .book)) (sym (last .1)) here
     ]
 
@@ -47,7 +47,7 @@ nth-set-other (z ∷ zs) (suc i) (suc k) y apart = nth-set-other zs i k y (λ e.
 pub sound-set : (gs : List (Gate Pile)) (i : ℕ) (g : Gate Pile) → All-sound gs → Pile-sound (g .book) → All-sound (set gs i g)
 sound-set gs i g all here k x e =
     elim (cases-eq k i) [
-        inl same ↦ subst (λ y. Pile-sound (y .book)) (sym (nth-set-same gs i g x (subst (λ n. nth (set gs i g) n ≡ Some x) same e))) here
+      | inl same ↦ subst (λ y. Pile-sound (y .book)) (sym (nth-set-same gs i g x (subst (λ n. nth (set gs i g) n ≡ Some x) same e))) here
       | inr apart ↦ all k x (sym (nth-set-other gs i k g apart) ∙ e)
     ]
 

@@ -32,14 +32,15 @@ module _ (live : ℕ → Option Entry) where
 
   pub gathered-next : Orderly live → (at : ℕ) (e : Entry) → Follows live at e → (gathered live (suc at) (65535 - at) ≡ e ∷ gathered live (suc (e .serial)) (65535 - e .serial)) × (e .serial ≤ 65535)
   gathered-next orderly at e follows = elim (cases-lt 65535 (e .serial)) [
-      inl past ↦ (let dead = orderly .ends (e .serial) past in let found = follows .found in let z : _≡_ {A = ℕ} 0 1 = cc in absurd (omega arith))
+    | inl past ↦ (let dead = orderly .ends (e .serial) past in let found = follows .found in let z : _≡_ {A = ℕ} 0 1 = cc in absurd (omega arith))
     | inr within ↦ (
-        (let above = follows .above in
-        let k = e .serial - suc at in
-        let m = 65535 - e .serial in
-        ap (gathered live (suc at)) (omega arith) ∙ skipped k (suc m) (suc at) (λ t lo hi. follows .between t lo (omega arith)) ∙ ap (λ n. gathered live n (suc m)) (omega arith) ∙ one-more (e .serial) m e (follows .found)),
-        within)
-    ]
+      (let above = follows .above in
+          let k = e .serial - suc at in
+          let m = 65535 - e .serial in
+          ap (gathered live (suc at)) (omega arith) ∙ skipped k (suc m) (suc at) (λ t lo hi. follows .between t lo (omega arith)) ∙ ap (λ n. gathered live n (suc m)) (omega arith) ∙ one-more (e .serial) m e (follows .found)),
+      within,
+    )
+  ]
 
   pub gathered-none : (at : ℕ) → ((t : ℕ) → at < t → live t ≡ None) → gathered live (suc at) (65535 - at) ≡ []
   gathered-none at dead = none-left (65535 - at) (suc at) (λ t lo. dead t lo)

@@ -7,7 +7,7 @@ ghost use Rattle.std.specs.Options.{Cases as BySome};
 ghost use Rattle.std.specs.Of.Vec.{vec-items};
 ghost use Rattle.job.specs.Commands.{said, reading};
 ghost use Rattle.console.specs.Deeds.{reply};
-ghost use Rattle.console.specs.Desks.{Console-sound, desk-of, place-of, Admits, Opens, turn-reply, turned, AtGate, Did, Heeded, answered-as};
+ghost use Rattle.console.specs.Desks.{Console-sound, desk, desk-of, place-of, Admits, Opens, turn-reply, turned, AtGate, Did, Heeded, answered-as};
 ghost use Rattle.console.specs.Piles.{Pile-sound, pile-state};
 ghost use Rattle.job.specs.Books.{heldIn, sheets, floorOf};
 ghost use Rattle.job.specs.Words.{words};
@@ -50,7 +50,7 @@ impl Console {
     // A console with no gate open.
     pub fn new(heap: Global) -> Console
         ensures sound { λ r. ⌜ Console-sound r ⌝ }
-        ensures gates { λ r. ⌜ desk-of r .gates ≡ [] ⌝ }
+        ensures desk { λ r. ⌜ desk-of r ≡ desk [] 0 ⌝ }
     {
         Console {
             heap,

@@ -4,5 +4,4 @@ ghost use Rattle.gate.specs.Worked.{Worked};
 // All the worked cases.
 pub fn worked_cases_hold()
     ensures cases { λ _. ⌜ Worked ⌝ }
-{
-}
+{}

@@ -29,7 +29,7 @@ fn answer(rt: &LibcRuntime, console: &mut Console, number: u64, line: &[u8]) -> 
 }
 
 // Does the lines of the job in order.
-pub fn run(rt: &LibcRuntime, name: &str) -> Result<(), AnyError> {
+pub(crate) fn run(rt: &LibcRuntime, name: &str) -> Result<(), AnyError> {
     let bytes = read(rt, name)?;
     let mut console = Console::new(rt.alloc());
     let mut rest = bytes.as_slice();

@@ -21,27 +21,102 @@ struct Row {
 }
 
 const PRINCIPALS: [Row; 4] = [
-    Row { form: 1, x: 0, y: 0, words: "Shop" },
-    Row { form: 1, x: 1, y: 0, words: "Lab" },
-    Row { form: 2, x: 0, y: 1, words: "Shop & Lab" },
-    Row { form: 3, x: 0, y: 1, words: "Shop quoting Lab" },
+    Row {
+        form: 1,
+        x: 0,
+        y: 0,
+        words: "Shop",
+    },
+    Row {
+        form: 1,
+        x: 1,
+        y: 0,
+        words: "Lab",
+    },
+    Row {
+        form: 2,
+        x: 0,
+        y: 1,
+        words: "Shop & Lab",
+    },
+    Row {
+        form: 3,
+        x: 0,
+        y: 1,
+        words: "Shop quoting Lab",
+    },
 ];
 
 const STATEMENTS: [Row; 10] = [
-    Row { form: 1, x: 0, y: 0, words: "this recipe may be poured (request 0)" },
-    Row { form: 4, x: 2, y: 0, words: "Shop & Lab says that it may be poured" },
-    Row { form: 2, x: 0, y: 0, words: "it may not be poured" },
-    Row { form: 3, x: 1, y: 2, words: "Shop & Lab says that it may be poured, and it may not" },
-    Row { form: 2, x: 3, y: 0, words: "Shop & Lab controls it: what they say together about it holds" },
-    Row { form: 4, x: 0, y: 0, words: "Shop says that it may be poured" },
-    Row { form: 4, x: 1, y: 0, words: "Lab says that it may be poured" },
-    Row { form: 4, x: 0, y: 6, words: "Shop says that Lab says that it may be poured" },
-    Row { form: 5, x: 0, y: 0, words: "Shop speaks for Shop" },
-    Row { form: 4, x: 3, y: 0, words: "Shop quoting Lab says that it may be poured" },
+    Row {
+        form: 1,
+        x: 0,
+        y: 0,
+        words: "this recipe may be poured (request 0)",
+    },
+    Row {
+        form: 4,
+        x: 2,
+        y: 0,
+        words: "Shop & Lab says that it may be poured",
+    },
+    Row {
+        form: 2,
+        x: 0,
+        y: 0,
+        words: "it may not be poured",
+    },
+    Row {
+        form: 3,
+        x: 1,
+        y: 2,
+        words: "Shop & Lab says that it may be poured, and it may not",
+    },
+    Row {
+        form: 2,
+        x: 3,
+        y: 0,
+        words: "Shop & Lab controls it: what they say together about it holds",
+    },
+    Row {
+        form: 4,
+        x: 0,
+        y: 0,
+        words: "Shop says that it may be poured",
+    },
+    Row {
+        form: 4,
+        x: 1,
+        y: 0,
+        words: "Lab says that it may be poured",
+    },
+    Row {
+        form: 4,
+        x: 0,
+        y: 6,
+        words: "Shop says that Lab says that it may be poured",
+    },
+    Row {
+        form: 5,
+        x: 0,
+        y: 0,
+        words: "Shop speaks for Shop",
+    },
+    Row {
+        form: 4,
+        x: 3,
+        y: 0,
+        words: "Shop quoting Lab says that it may be poured",
+    },
 ];
 
 // A row's number, or why it was not named.
-fn tell_row(rt: &LibcRuntime, kind: &str, words: &str, answer: Result<u16, Denial>) -> Result<(), AnyError> {
+fn tell_row(
+    rt: &LibcRuntime,
+    kind: &str,
+    words: &str,
+    answer: Result<u16, Denial>,
+) -> Result<(), AnyError> {
     match answer {
         Ok(row) => println!(rt, "  {kind} {row}: {words}.")?,
         Err(denial) => println!(rt, "  {words}: {denial}.")?,
@@ -56,23 +131,45 @@ fn name_rows<B: Book>(rt: &LibcRuntime, gate: &mut Gate<B>) -> Result<(), AnyErr
 {
     println!(rt, "The gate names whom and what the morning is about.")?;
     for row in &PRINCIPALS {
-        tell_row(rt, "principal", row.words, gate.principal(row.form, row.x, row.y))?;
+        tell_row(
+            rt,
+            "principal",
+            row.words,
+            gate.principal(row.form, row.x, row.y),
+        )?;
     }
     for row in &STATEMENTS {
-        tell_row(rt, "statement", row.words, gate.statement(row.form, row.x, row.y))?;
+        tell_row(
+            rt,
+            "statement",
+            row.words,
+            gate.statement(row.form, row.x, row.y),
+        )?;
     }
     Ok(())
 }
 
 // Files an entry and tells what came of it.
-fn file<B: Book>(rt: &LibcRuntime, gate: &mut Gate<B>, serial: u16, standing: u8, row: u16) -> Result<(), AnyError>
+fn file<B: Book>(
+    rt: &LibcRuntime,
+    gate: &mut Gate<B>,
+    serial: u16,
+    standing: u8,
+    row: u16,
+) -> Result<(), AnyError>
     requires { ⌜ B·Register .sound (now gate .book) ⌝ }
     ensures sound { λ _. ⌜ B·Register .sound (now (gate .exit) .book) ⌝ }
 {
     let kind = if standing == 1 { "rule" } else { "saying" };
     match gate.file(serial, standing, row) {
-        Ok(()) => println!(rt, "  serial {serial}: statement {row} is filed as a {kind}.")?,
-        Err(denial) => println!(rt, "  serial {serial}: statement {row} as a {kind} is {denial}.")?,
+        Ok(()) => println!(
+            rt,
+            "  serial {serial}: statement {row} is filed as a {kind}."
+        )?,
+        Err(denial) => println!(
+            rt,
+            "  serial {serial}: statement {row} as a {kind} is {denial}."
+        )?,
     }
     Ok(())
 }
@@ -111,11 +208,17 @@ fn keep_the_book<B: Book>(rt: &LibcRuntime, gate: &mut Gate<B>) -> Result<(), An
     requires { ⌜ B·Register .sound (now gate .book) ⌝ }
     ensures sound { λ _. ⌜ B·Register .sound (now (gate .exit) .book) ⌝ }
 {
-    println!(rt, "The paint house files its rule, and shop and lab file what they say.")?;
+    println!(
+        rt,
+        "The paint house files its rule, and shop and lab file what they say."
+    )?;
     file(rt, gate, 1, 1, 4)?;
     file(rt, gate, 2, 2, 5)?;
     file(rt, gate, 3, 2, 6)?;
-    println!(rt, "The ledger's three records are used. A fourth entry finds no place.")?;
+    println!(
+        rt,
+        "The ledger's three records are used. A fourth entry finds no place."
+    )?;
     file(rt, gate, 4, 2, 7)?;
     show_book(rt, gate)?;
     println!(rt, "The lab takes its saying back, which makes room.")?;
@@ -125,12 +228,18 @@ fn keep_the_book<B: Book>(rt: &LibcRuntime, gate: &mut Gate<B>) -> Result<(), An
 }
 
 // Tells the whole task, from an empty ledger of three records on.
-pub fn tell(rt: &LibcRuntime) -> Result<(), AnyError> {
-    println!(rt, "The morning of one recipe that needs shop and lab together.")?;
+pub(crate) fn tell(rt: &LibcRuntime) -> Result<(), AnyError> {
+    println!(
+        rt,
+        "The morning of one recipe that needs shop and lab together."
+    )?;
     let mut records = [BLANK; 3];
     let mut gate = Gate::new(7, Ledger::new(&mut records));
     let number = gate.number();
-    println!(rt, "Gate {number} opens with an empty ledger of three records.")?;
+    println!(
+        rt,
+        "Gate {number} opens with an empty ledger of three records."
+    )?;
     name_rows(rt, &mut gate)?;
     keep_the_book(rt, &mut gate)
 }

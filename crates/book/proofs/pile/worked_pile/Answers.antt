@@ -29,4 +29,4 @@ returns c =
     let answers : c .ask .result ≡ told (5 ∷ []) (6 ∷ []) held-before =
     c .ask .ensures .answer ∙ ap (λ xs. told xs (sheet-list (p .below .sheet)) (owned-means (p .below .below))) high ∙
     ap (λ xs. told (5 ∷ []) xs (owned-means (p .below .below))) low ∙ ap (told (5 ∷ []) (6 ∷ [])) book in
-    (refl, answers, ap (λ r. r .found) answers, ap (λ r. r .filed) answers, ap (λ r. r .struck) answers, ap (λ r. r .other) answers)
+    record { answers = (refl, answers, ap (λ r. r .found) answers, ap (λ r. r .filed) answers, ap (λ r. r .struck) answers, ap (λ r. r .other) answers) }

@@ -16,8 +16,10 @@ returns-in-Ok c =
     let place : c .len-place .result ≡ length (map pile-state old) = omega (arith, c .len-place .ensures, c .args .self .now .gates .ok .0, length-map old pile-state) in
     record {
       sound = subst All-sound (sym pushed) (sound-push old (c .args .gate) (c .pre .0) (c .pre .1));
-      did = (c .number-number .ensures .answer,
-        ap (λ gs. desk (map pile-state gs) (c .len-place .result)) pushed ∙ ap (λ gs. desk gs (c .len-place .result)) (map-push pile-state old (c .args .gate)) ∙ ap (desk _) place);
+      did = (
+        c .number-number .ensures .answer,
+        ap (λ gs. desk (map pile-state gs) (c .len-place .result)) pushed ∙ ap (λ gs. desk gs (c .len-place .result)) (map-push pile-state old (c .args .gate)) ∙ ap (desk _) place,
+      );
     }
 
 pub returns-in-Err : need.returns-in-Err

@@ -41,5 +41,5 @@ returns c =
     record {
       sound = sound-set gates (self .current) after (c .pre) (c .act-answer .ensures .sound);
       did = subst (λ (o : Option State). AtState (desk-of self) (c .args .deed) o (reply (c .act-answer .result)) (desk (map pile-state (set gates (self .current) after)) (self .current))) (sym found)
-        (c .act-answer .ensures .answer, ap (λ gs. desk gs (self .current)) (map-set pile-state gates (self .current) after ∙ ap (set (map pile-state gates) (self .current)) (c .act-answer .ensures .after)));
+          (c .act-answer .ensures .answer, ap (λ gs. desk gs (self .current)) (map-set pile-state gates (self .current) after ∙ ap (set (map pile-state gates) (self .current)) (c .act-answer .ensures .after)));
     }

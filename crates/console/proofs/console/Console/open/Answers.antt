@@ -54,7 +54,7 @@ returns-in-Ok c =
     record {
       sound = c .admit .ensures .sound;
       did = opens-makes d n made (reply (c .admit .result)) e (ap isSome found ∙ sym (c .if-is-some .ensures tt)) room
-        (subst (λ (m : Result State Denial). Makes d m (reply (c .admit .result)) e) (sym (c .in-Ok .ensures tt .answer)) (c .admit .ensures .did));
+          (subst (λ (m : Result State Denial). Makes d m (reply (c .admit .result)) e) (sym (c .in-Ok .ensures tt .answer)) (c .admit .ensures .did));
     }
 
 pub returns-in-Err : need.returns-in-Err
@@ -69,5 +69,5 @@ returns-in-Err c =
     record {
       sound = c .pre;
       did = opens-makes d n made (refused (c .in-Err .denial)) d (ap isSome found ∙ sym (c .if-is-some .ensures tt)) room
-        (subst (λ (m : Result State Denial). Makes d m (refused (c .in-Err .denial)) d) (sym (c .in-Err .ensures tt .answer)) (refl, refl));
+          (subst (λ (m : Result State Denial). Makes d m (refused (c .in-Err .denial)) d) (sym (c .in-Err .ensures tt .answer)) (refl, refl));
     }
