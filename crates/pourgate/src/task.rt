@@ -1,5 +1,6 @@
 // The built-in task: the morning of one recipe that needs shop and lab together.
 use book::entry::BLANK;
+use book::entry::Entry;
 use book::entry::Standing;
 use book::filing::Book;
 use book::ledger::Ledger;
@@ -9,6 +10,7 @@ use book::register::Register;
 use console::listing::live_entries;
 use gate::gate::Gate;
 use std::error::AnyError;
+use std::io;
 use terms::denial::Denial;
 use terms::words::DenialDisplay;
 
@@ -110,18 +112,20 @@ const STATEMENTS: [Row; 10] = [
     },
 ];
 
-// A row's number, or why it was not named.
-fn tell_row(
-    rt: &LibcRuntime,
-    kind: &str,
-    words: &str,
-    answer: Result<u16, Denial>,
-) -> Result<(), AnyError> {
+// The row's number behind its words, or why it has none.
+fn tell_row(rt: &LibcRuntime, words: &str, answer: Result<u16, Denial>) -> io::Result<()> {
     match answer {
-        Ok(row) => println!(rt, "  {kind} {row}: {words}.")?,
-        Err(denial) => println!(rt, "  {words}: {denial}.")?,
+        Ok(row) => println!(rt, "  row {row}: {words}."),
+        Err(denial) => println!(rt, "  {words}: {denial}."),
     }
-    Ok(())
+}
+
+// What was done, or why it was not.
+fn tell_done(rt: &LibcRuntime, done: &str, answer: Result<(), Denial>) -> io::Result<()> {
+    match answer {
+        Ok(()) => println!(rt, "{done}."),
+        Err(denial) => println!(rt, "{denial}."),
+    }
 }
 
 // Names all rows of the morning.
@@ -131,20 +135,10 @@ fn name_rows<B: Book>(rt: &LibcRuntime, gate: &mut Gate<B>) -> Result<(), AnyErr
 {
     println!(rt, "The gate names whom and what the morning is about.")?;
     for row in &PRINCIPALS {
-        tell_row(
-            rt,
-            "principal",
-            row.words,
-            gate.principal(row.form, row.x, row.y),
-        )?;
+        tell_row(rt, row.words, gate.principal(row.form, row.x, row.y))?;
     }
     for row in &STATEMENTS {
-        tell_row(
-            rt,
-            "statement",
-            row.words,
-            gate.statement(row.form, row.x, row.y),
-        )?;
+        tell_row(rt, row.words, gate.statement(row.form, row.x, row.y))?;
     }
     Ok(())
 }
@@ -156,34 +150,31 @@ fn file<B: Book>(
     serial: u16,
     standing: u8,
     row: u16,
-) -> Result<(), AnyError>
+) -> io::Result<()>
     requires { ⌜ B·Register .sound (now gate .book) ⌝ }
     ensures sound { λ _. ⌜ B·Register .sound (now (gate .exit) .book) ⌝ }
 {
-    let kind = if standing == 1 { "rule" } else { "saying" };
-    match gate.file(serial, standing, row) {
-        Ok(()) => println!(
-            rt,
-            "  serial {serial}: statement {row} is filed as a {kind}."
-        )?,
-        Err(denial) => println!(
-            rt,
-            "  serial {serial}: statement {row} as a {kind} is {denial}."
-        )?,
-    }
-    Ok(())
+    print!(rt, "  statement {row} under serial {serial}: ")?;
+    tell_done(rt, "filed", gate.file(serial, standing, row))
 }
 
 // Strikes a serial and tells what came of it.
-fn strike<B: Book>(rt: &LibcRuntime, gate: &mut Gate<B>, serial: u16) -> Result<(), AnyError>
+fn strike<B: Book>(rt: &LibcRuntime, gate: &mut Gate<B>, serial: u16) -> io::Result<()>
     requires { ⌜ B·Register .sound (now gate .book) ⌝ }
     ensures sound { λ _. ⌜ B·Register .sound (now (gate .exit) .book) ⌝ }
 {
-    match gate.strike(serial) {
-        Ok(()) => println!(rt, "  serial {serial} is struck.")?,
-        Err(denial) => println!(rt, "  serial {serial} is {denial}.")?,
+    print!(rt, "  serial {serial}: ")?;
+    tell_done(rt, "struck", gate.strike(serial))
+}
+
+// An entry of the book in words.
+fn tell_entry(rt: &LibcRuntime, entry: &Entry) -> io::Result<()> {
+    let serial = entry.serial;
+    let row = entry.row;
+    match entry.standing {
+        Standing::Rule => println!(rt, "  serial {serial}: statement {row}, a rule."),
+        Standing::Saying => println!(rt, "  serial {serial}: statement {row}, a saying."),
     }
-    Ok(())
 }
 
 // Tells what is live.
@@ -193,12 +184,7 @@ fn show_book<B: Book>(rt: &LibcRuntime, gate: &Gate<B>) -> Result<(), AnyError>
     println!(rt, "The book now holds:")?;
     let entries = live_entries(rt.alloc(), gate)?;
     for entry in entries.iter() {
-        let serial = entry.serial;
-        let row = entry.row;
-        match entry.standing {
-            Standing::Rule => println!(rt, "  serial {serial}: statement {row}, a rule.")?,
-            Standing::Saying => println!(rt, "  serial {serial}: statement {row}, a saying.")?,
-        }
+        tell_entry(rt, entry)?;
     }
     Ok(())
 }
