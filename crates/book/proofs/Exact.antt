@@ -10,8 +10,8 @@ use Rattle.std.specs.declared.option.Option.{Option}
 use Rattle.std.specs.declared.option.Option.the-variants.{Some, None}
 use Rattle.std.specs.declared.result.Result.{Result}
 use Rattle.std.specs.declared.result.Result.the-variants.{Ok, Err}
-use Rattle.terms.specs.declared.denial.Denial.{Denial}
-use Rattle.terms.specs.Denials.{denied}
+use Rattle.denials.specs.declared.denial.Denial.{Denial}
+use Rattle.denials.specs.Denials.{denied}
 use Rattle.book.specs.declared.entry.Entry.{Entry}
 use Rattle.book.specs.Meaning.{Meaning, means, with-entry, without, answered, settled, filing-number, file-answer, file-after, striking-number, strike-answer, strike-after}
 use Rattle.book.specs.Laws.{Filed, Struck, Entered, Removed, Unfileable, serial-zero, serial-barred, serial-live, no-place, Filing-exact, Striking-exact, Taken-back}

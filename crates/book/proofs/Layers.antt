@@ -12,12 +12,12 @@ use Rattle.std.specs.declared.option.Option.{Option}
 use Rattle.std.specs.declared.option.Option.the-variants.{Some, None}
 use Rattle.std.specs.declared.result.Result.{Result}
 use Rattle.std.specs.declared.result.Result.the-variants.{Err}
-use Rattle.terms.specs.declared.denial.Denial.{Denial}
-use Rattle.terms.specs.Denials.{denied}
+use Rattle.denials.specs.declared.denial.Denial.{Denial}
+use Rattle.denials.specs.Denials.{denied}
 use Rattle.book.specs.declared.entry.Entry.{Entry}
 use Rattle.book.specs.Live.{Orderly, Follows, Next, next-after}
 use Rattle.book.specs.Meaning.{Meaning, means, with-entry, without, answered, settled, filing-number, file-answer, file-after, striking-number, strike-answer, strike-after}
-use Rattle.book.specs.Orderly.{some-none}
+use Rattle.book.specs.Single.{some-none}
 use Rattle.book.specs.Sheet.{on}
 use Rattle.book.specs.Recall.{recalled-live, recalled-barred, recall-means, recalled-here, recalled-other, recalled-none, recalled-orderly}
 use Rattle.book.proofs.Scan.{next-is, scan-next}

@@ -1,10 +1,5 @@
 pub mod Scan
 pub mod Outcomes
 pub mod Exact
-pub mod Held
-pub mod Shifts
-pub mod Calls
 pub mod Listed
 pub mod Layers
-pub mod Cards
-pub mod Piles

@@ -6,8 +6,8 @@ use Rattle.std.proofs.shelf.Tests.{eq-eqb, ne-eqb, cond-true, cond-false}
 use Rattle.std.specs.Options.{isSome}
 use Rattle.std.specs.declared.result.Result.{Result}
 use Rattle.std.specs.declared.result.Result.the-variants.{Ok, Err}
-use Rattle.terms.specs.declared.denial.Denial.{Denial}
-use Rattle.terms.specs.Denials.{denied}
+use Rattle.denials.specs.declared.denial.Denial.{Denial}
+use Rattle.denials.specs.Denials.{denied}
 use Rattle.book.specs.declared.entry.Entry.{Entry}
 use Rattle.book.specs.Meaning.{Meaning, means, with-entry, without, answered, settled, filing-number, file-answer, file-after, striking-number, strike-answer, strike-after}
 

@@ -9,7 +9,7 @@ use Rattle.std.specs.declared.option.Option.the-variants.{Some, None}
 use Rattle.book.specs.declared.entry.Entry.{Entry}
 use Rattle.book.specs.Live.{Orderly, Next, first-from, or-else, next-after}
 use Rattle.book.specs.Laws.{Next-exact}
-use Rattle.book.specs.Orderly.{some-none, some-same}
+use Rattle.book.specs.Single.{some-none, some-same}
 
 -- Next, counted from the serial itself
 record First (live : ℕ → Option Entry) (s : ℕ) (e : Entry) : Type 0 where

@@ -15,8 +15,8 @@ use Rattle.std.specs.declared.option.Option.{Option}
 use Rattle.std.specs.declared.option.Option.the-variants.{Some, None}
 use Rattle.std.specs.declared.result.Result.{Result}
 use Rattle.std.specs.declared.result.Result.the-variants.{Ok, Err}
-use Rattle.terms.specs.declared.denial.Denial.{Denial}
-use Rattle.terms.specs.Denials.{denied}
+use Rattle.denials.specs.declared.denial.Denial.{Denial}
+use Rattle.denials.specs.Denials.{denied}
 use Rattle.book.specs.declared.entry.Entry.{Entry}
 use Rattle.book.specs.Live.{Orderly, Next, next-after}
 use Rattle.book.specs.Meaning.{Meaning, file-answer, file-after, strike-answer, strike-after}

@@ -1,11 +1,6 @@
 pub mod Live
+pub mod Single
 pub mod Meaning
 pub mod Laws
-pub mod Records
-pub mod Orderly
-pub mod Ledger
 pub mod Sheet
 pub mod Recall
-pub mod Card
-pub mod Owned
-pub mod Pile

@@ -12,7 +12,7 @@ use Rattle.std.specs.declared.option.Option.the-variants.{None}
 use Rattle.book.specs.declared.entry.Entry.{Entry}
 use Rattle.book.specs.Live.{Orderly}
 use Rattle.book.specs.Meaning.{Meaning, means}
-use Rattle.book.specs.Orderly.{some-none}
+use Rattle.book.specs.Single.{some-none}
 use Rattle.book.specs.Sheet.{on}
 
 abbrev pub recalled-live : List ℕ → (ℕ → Option Entry) → ℕ → Option Entry

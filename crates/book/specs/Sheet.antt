@@ -11,7 +11,7 @@ use Prim.Native.Nat.{ℕ, _≤_}
 use lib.Dec.{eqb, leb}
 use lib.ListN.{length, take}
 use Rattle.std.specs.declared.result.Result.{Result}
-use Rattle.terms.specs.declared.denial.Denial.{Denial}
+use Rattle.denials.specs.declared.denial.Denial.{Denial}
 use Rattle.book.specs.declared.sheet.Sheet.{Sheet}
 use Rattle.book.specs.Meaning.{answered}
 

@@ -5,7 +5,7 @@ ghost use Prim.Native.Nat.{ℕ};
 ghost use Rattle.book.specs.Meaning.{means, file-answer, file-after, strike-answer, strike-after};
 use crate::entry::Entry;
 use crate::register::Register;
-use terms::denial::Denial;
+use denials::denial::Denial;
 
 // What can be filed and struck. Barred serials never change.
 pub trait Book: Register {

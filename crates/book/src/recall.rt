@@ -6,8 +6,8 @@ use crate::entry::Entry;
 use crate::filing::Book;
 use crate::register::Register;
 use crate::sheet::Sheet;
-use terms::denial::Denial;
-use terms::denial::Reason;
+use denials::denial::Denial;
+use denials::denial::Reason;
 
 // Nothing changes the sheet once the layer is made.
 #[derive(Clone, Copy, Drop)]

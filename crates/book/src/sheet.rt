@@ -2,8 +2,8 @@
 ghost use mathlib.Core.Path.{_≡_};
 ghost use mathlib.Core.List.{[]};
 ghost use Rattle.book.specs.Sheet.{on, sheet-list, Sheet-sound, sheet-add-answer, sheet-add-after};
-use terms::denial::Denial;
-use terms::denial::Reason;
+use denials::denial::Denial;
+use denials::denial::Reason;
 
 // A sheet has room for this many serials.
 pub const SHEET_SIZE: usize = 64;

@@ -18,7 +18,7 @@ use lib.Dec.{eqb, leb}
 use borrow.Author.Tests.{le-leb, lt-leb}
 use Rattle.std.specs.Options.{isSome}
 use Rattle.std.specs.declared.result.Result.{Result}
-use Rattle.terms.specs.declared.denial.Denial.{Denial}
+use Rattle.denials.specs.declared.denial.Denial.{Denial}
 use Rattle.gate.specs.State.{State}
 use Rattle.console.specs.declared.answer.Fault.the-variants.{OpenAlready, NinthGate}
 use Rattle.console.specs.Replies.{Reply, unreadable}

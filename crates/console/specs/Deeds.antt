@@ -12,7 +12,7 @@ use mathlib.Core.List.{List}
 use Rattle.std.specs.Of.Vec.{vec-items}
 use Rattle.std.specs.declared.result.Result.{Result}
 use Rattle.std.specs.declared.result.Result.the-variants.{Ok, Err}
-use Rattle.terms.specs.declared.denial.Denial.{Denial}
+use Rattle.denials.specs.declared.denial.Denial.{Denial}
 use Rattle.book.specs.declared.entry.Entry.{Entry}
 use Rattle.gate.specs.State.{State, principal-call, principal-left, statement-call, statement-left, filing, filing-left, striking, striking-left}
 use Rattle.console.specs.declared.answer.Answer.{Answer}

@@ -3,7 +3,7 @@
 -- Reply        an answer: a gate that was opened or made current, a row, done, the live entries, a denial, or why the line is unreadable
 use Prim.Native.Nat.{ℕ}
 use mathlib.Core.List.{List}
-use Rattle.terms.specs.declared.denial.Denial.{Denial}
+use Rattle.denials.specs.declared.denial.Denial.{Denial}
 use Rattle.book.specs.declared.entry.Entry.{Entry}
 use Rattle.console.specs.declared.answer.Fault.{Fault}
 

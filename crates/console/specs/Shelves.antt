@@ -8,11 +8,11 @@ use Prim.Native.Nat.{ℕ, _-_}
 use mathlib.Core.Bool.{Bool, false}
 use Rattle.std.specs.declared.option.Option.{Option}
 use Rattle.book.specs.declared.entry.Entry.{Entry}
-use Rattle.book.specs.Card.{Card-sound, card-live, card-barred, card-free, card-orderly}
+use Rattle.records.specs.Card.{Card-sound, card-live, card-barred, card-free, card-orderly}
 use Rattle.book.specs.Live.{Orderly}
-use Rattle.book.specs.Orderly.{kept-orderly}
-use Rattle.book.specs.Owned.{Owned-sound}
-use Rattle.book.specs.Records.{held}
+use Rattle.records.specs.Orderly.{kept-orderly}
+use Rattle.records.specs.Owned.{Owned-sound}
+use Rattle.records.specs.Records.{held}
 use Rattle.console.specs.declared.shelf.Shelf.{Shelf}
 use Rattle.console.specs.declared.shelf.Shelf.the-variants.{Ledger, Card}
 

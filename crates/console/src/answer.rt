@@ -1,7 +1,7 @@
 // What the console answers to a line.
 use book::entry::Entry;
 use job::Unreadable;
-use terms::denial::Denial;
+use denials::denial::Denial;
 
 // Why a line has no effect though it is not denied.
 #[derive(Clone, Copy)]

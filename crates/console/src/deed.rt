@@ -11,7 +11,7 @@ use book::filing::Book;
 use book::register::Register;
 use gate::gate::Gate;
 use std::alloc::Global;
-use terms::denial::Denial;
+use denials::denial::Denial;
 
 #[derive(Clone, Copy)]
 pub enum Deed {

@@ -12,11 +12,11 @@ ghost use Rattle.console.specs.Shelves.{Shelf-sound};
 use crate::shelf::Shelf;
 use crate::shelf::ShelfBook;
 use crate::shelf::ShelfRegister;
-use book::card::CardBook;
+use records::card::CardBook;
 use book::entry::Entry;
 use book::entry::Standing;
 use book::filing::Book;
-use book::owned::OwnedLedger;
+use records::owned::OwnedLedger;
 use book::recall::Recall;
 use book::recall::RecallBook;
 use book::recall::RecallRegister;
@@ -27,7 +27,7 @@ use job::Layers;
 use job::Opening;
 use job::next_entry;
 use job::next_serial;
-use terms::denial::Denial;
+use denials::denial::Denial;
 
 // The book of a console's gate. A layer that a job does not ask for has an empty sheet.
 pub type Pile = Recall<Recall<Shelf>>;

@@ -5,7 +5,7 @@ use book::entry::Entry;
 use book::entry::Standing;
 use job::UnreadableDisplay;
 use std::fmt;
-use terms::words::DenialDisplay;
+use denials::words::DenialDisplay;
 
 pub impl fmt::Display for Fault as FaultDisplay {
     fn fmt<W: fmt::Write>(&self, f: &mut fmt::Formatter<W>) -> fmt::Result {

@@ -8,9 +8,9 @@ use Rattle.std.specs.Finite.{nth}
 use Rattle.std.specs.declared.option.Option.the-variants.{Some, None}
 use Rattle.std.specs.declared.result.Result.{Result}
 use Rattle.std.specs.declared.result.Result.the-variants.{Err}
-use Rattle.terms.specs.declared.denial.Denial.{Denial}
+use Rattle.denials.specs.declared.denial.Denial.{Denial}
 use Rattle.terms.specs.declared.row.StatementRow.{StatementRow}
-use Rattle.terms.specs.Denials.{denied}
+use Rattle.denials.specs.Denials.{denied}
 use Rattle.book.specs.declared.entry.Standing.{Standing}
 use Rattle.book.specs.declared.entry.Standing.the-variants.{Rule, Saying}
 use Rattle.book.specs.Laws.{Filed, Struck}

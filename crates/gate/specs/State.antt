@@ -20,8 +20,8 @@ use Rattle.std.specs.declared.option.Option.{Option}
 use Rattle.std.specs.declared.option.Option.the-variants.{Some, None}
 use Rattle.std.specs.declared.result.Result.{Result}
 use Rattle.std.specs.declared.result.Result.the-variants.{Ok, Err}
-use Rattle.terms.specs.declared.denial.Denial.{Denial}
-use Rattle.terms.specs.Denials.{denied}
+use Rattle.denials.specs.declared.denial.Denial.{Denial}
+use Rattle.denials.specs.Denials.{denied}
 use Rattle.terms.specs.Laws.{principal-name, principal-named, statement-name, statement-named}
 use Rattle.terms.specs.Named.{rows-of}
 use Rattle.terms.specs.Written.{Rows}

@@ -10,7 +10,7 @@ use mathlib.Core.Bool.{false}
 use mathlib.Core.List.{List, [], _∷_}
 use lib.ListN.{length}
 use Rattle.std.specs.declared.result.Result.the-variants.{Ok, Err}
-use Rattle.terms.specs.Denials.{denied}
+use Rattle.denials.specs.Denials.{denied}
 use Rattle.book.specs.Meaning.{empty-book}
 use Rattle.gate.specs.State.{State, new-gate, principal-left, statement-call, statement-left, filing, filing-left, striking, striking-left}
 

@@ -11,8 +11,8 @@ use book::entry::Entry;
 use book::entry::Standing;
 use book::filing::Book;
 use book::register::Register;
-use terms::denial::Denial;
-use terms::denial::Reason;
+use denials::denial::Denial;
+use denials::denial::Reason;
 use terms::names::Names;
 
 // The standing with this number.

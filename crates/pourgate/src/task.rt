@@ -3,16 +3,16 @@ use book::entry::BLANK;
 use book::entry::Entry;
 use book::entry::Standing;
 use book::filing::Book;
-use book::ledger::Ledger;
-use book::ledger::LedgerBook;
-use book::ledger::LedgerRegister;
+use records::ledger::Ledger;
+use records::ledger::LedgerBook;
+use records::ledger::LedgerRegister;
 use book::register::Register;
 use console::listing::live_entries;
 use gate::gate::Gate;
 use std::error::AnyError;
 use std::io;
-use terms::denial::Denial;
-use terms::words::DenialDisplay;
+use denials::denial::Denial;
+use denials::words::DenialDisplay;
 
 // A row to name, and what it says.
 struct Row {

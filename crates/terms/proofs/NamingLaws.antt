@@ -17,12 +17,12 @@ use Rattle.std.specs.declared.result.Result.the-variants.{Ok, Err}
 use Rattle.std.proofs.shelf.Tests.{and-parts, and-from, cond-both}
 use Rattle.std.proofs.shelf.Results.{cases-at-ok}
 use Rattle.std.proofs.shelf.Lists.{length-push}
-use Rattle.terms.specs.declared.denial.Denial.{Denial}
+use Rattle.denials.specs.declared.denial.Denial.{Denial}
 use Rattle.terms.specs.declared.row.PrincipalRow.{PrincipalRow}
 use Rattle.terms.specs.declared.row.PrincipalRow.the-variants.{Atom, Both, Quoting}
 use Rattle.terms.specs.declared.row.StatementRow.{StatementRow}
 use Rattle.terms.specs.declared.row.StatementRow.the-variants.{Request, Not, And, Says, SpeaksFor}
-use Rattle.terms.specs.Denials.{denied}
+use Rattle.denials.specs.Denials.{denied}
 use Rattle.terms.specs.Rows.{Determined, principal-form, principal-x, principal-y, principal-determined, statement-form, statement-x, statement-y, statement-determined}
 use Rattle.terms.specs.Naming.{same, position, further, put-answer, put-after, answered, left, with-operands, read-principal, read-statement, principal-answer, principal-after, statement-answer, statement-after}
 use Rattle.terms.specs.Laws.{OneMore, Answered}

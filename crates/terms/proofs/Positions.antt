@@ -11,7 +11,7 @@ use Rattle.std.proofs.shelf.Lists.{drop-more, drop-all, length-take-le, take-mo
 use Rattle.std.specs.declared.result.Result.the-variants.{Ok, Err}
 use Rattle.std.specs.declared.option.Option.{Option}
 use Rattle.std.specs.declared.option.Option.the-variants.{Some, None}
-use Rattle.terms.specs.Denials.{denied}
+use Rattle.denials.specs.Denials.{denied}
 use Rattle.terms.specs.Naming.{position, further, put-answer, put-after}
 
 further-more : (i : ℕ) (o : Option ℕ) → further i (further 1 o) ≡ further (i + 1) o

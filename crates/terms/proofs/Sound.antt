@@ -16,7 +16,7 @@ use Rattle.std.specs.declared.result.Result.{Result}
 use Rattle.std.specs.declared.result.Result.the-variants.{Ok, Err}
 use Rattle.std.proofs.shelf.Lists.{length-push, length-take-le}
 use Rattle.std.proofs.shelf.Tests.{cond-both}
-use Rattle.terms.specs.declared.denial.Denial.{Denial}
+use Rattle.denials.specs.declared.denial.Denial.{Denial}
 use Rattle.terms.specs.declared.names.Names.{Names}
 use Rattle.terms.specs.declared.row.PrincipalRow.{PrincipalRow}
 use Rattle.terms.specs.declared.row.StatementRow.{StatementRow}

@@ -17,12 +17,12 @@ use Rattle.std.specs.declared.result.Result.the-variants.{Ok, Err}
 use Rattle.std.proofs.shelf.Tests.{and-parts, and-from, cond-both, cases-bool, true≢false, cases-lt}
 use Rattle.std.proofs.shelf.Results.{cases-at-ok}
 use Rattle.std.proofs.shelf.Lists.{length-push}
-use Rattle.terms.specs.declared.denial.Denial.{Denial}
+use Rattle.denials.specs.declared.denial.Denial.{Denial}
 use Rattle.terms.specs.declared.row.PrincipalRow.{PrincipalRow}
 use Rattle.terms.specs.declared.row.PrincipalRow.the-variants.{Atom, Both, Quoting}
 use Rattle.terms.specs.declared.row.StatementRow.{StatementRow}
 use Rattle.terms.specs.declared.row.StatementRow.the-variants.{Request, Not, And, Says, SpeaksFor}
-use Rattle.terms.specs.Denials.{denied}
+use Rattle.denials.specs.Denials.{denied}
 use Rattle.terms.specs.Rows.{Determined}
 use Rattle.terms.specs.Naming.{same, position, further, put-after, with-operands, read-principal, read-statement}
 use Rattle.terms.specs.Tables.{Distinct, Every, principal-needs, statement-needs, principals-needed}

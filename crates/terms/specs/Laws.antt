@@ -19,7 +19,7 @@ use Rattle.std.specs.Finite.{nth}
 use Rattle.std.specs.declared.option.Option.the-variants.{Some}
 use Rattle.std.specs.declared.result.Result.{Result}
 use Rattle.std.specs.declared.result.Result.the-variants.{Ok, Err}
-use Rattle.terms.specs.declared.denial.Denial.{Denial}
+use Rattle.denials.specs.declared.denial.Denial.{Denial}
 use Rattle.terms.specs.Naming.{principal-answer, principal-after, statement-answer, statement-after}
 use Rattle.terms.specs.Tables.{Distinct, PartsEarlier, PartsNamed, principal-needs, statement-needs, principals-needed}
 use Rattle.terms.specs.Written.{Principal, Statement, Rows, principal-written, statement-written}

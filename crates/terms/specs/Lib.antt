@@ -1,4 +1,3 @@
-pub mod Denials
 pub mod Rows
 pub mod Naming
 pub mod Tables

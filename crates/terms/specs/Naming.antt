@@ -18,12 +18,12 @@ use Rattle.std.specs.declared.option.Option.{Option}
 use Rattle.std.specs.declared.option.Option.the-variants.{Some, None}
 use Rattle.std.specs.declared.result.Result.{Result}
 use Rattle.std.specs.declared.result.Result.the-variants.{Ok, Err}
-use Rattle.terms.specs.declared.denial.Denial.{Denial}
+use Rattle.denials.specs.declared.denial.Denial.{Denial}
 use Rattle.terms.specs.declared.row.PrincipalRow.{PrincipalRow}
 use Rattle.terms.specs.declared.row.PrincipalRow.the-variants.{Atom, Both, Quoting}
 use Rattle.terms.specs.declared.row.StatementRow.{StatementRow}
 use Rattle.terms.specs.declared.row.StatementRow.the-variants.{Request, Not, And, Says, SpeaksFor}
-use Rattle.terms.specs.Denials.{denied}
+use Rattle.denials.specs.Denials.{denied}
 use Rattle.terms.specs.Rows.{principal-form, principal-x, principal-y, statement-form, statement-x, statement-y}
 
 -- the row r if the operands pass the test, else denied 2

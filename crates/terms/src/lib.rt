@@ -1,5 +1,4 @@
-// Principals and statements as rows, what they mean, and how every call says no.
-pub mod denial;
+// Principals and statements as rows, and what they mean.
 pub mod names;
 mod naming;
 mod place;
@@ -8,4 +7,3 @@ mod read;
 pub mod row;
 pub mod statements;
 pub mod structures;
-pub mod words;

@@ -6,7 +6,7 @@ ghost use lib.ListN.{length, take};
 ghost use Rattle.std.specs.Finite.{nth};
 ghost use Rattle.terms.specs.Naming.{principal-answer, principal-after};
 ghost use Rattle.terms.specs.Tables.{Distinct, PartsEarlier, principal-needs};
-use crate::denial::Denial;
+use denials::denial::Denial;
 use crate::place::Placed;
 use crate::place::place;
 use crate::place::row_at;

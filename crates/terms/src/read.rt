@@ -1,8 +1,8 @@
 // Reading a form and two operands as a row, where so many rows are named.
 ghost use mathlib.Core.Path.{_≡_};
 ghost use Rattle.terms.specs.Naming.{read-principal, read-statement};
-use crate::denial::Denial;
-use crate::denial::Reason;
+use denials::denial::Denial;
+use denials::denial::Reason;
 use crate::row::PrincipalRow;
 use crate::row::StatementRow;
 

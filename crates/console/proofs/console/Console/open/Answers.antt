@@ -9,7 +9,7 @@ use Rattle.std.specs.Options.{isSome}
 use Rattle.std.specs.declared.result.Result.{Result}
 use Rattle.std.specs.declared.result.Result.the-variants.{Ok, Err}
 use Rattle.std.proofs.shelf.Lists.{length-map}
-use Rattle.terms.specs.declared.denial.Denial.{Denial}
+use Rattle.denials.specs.declared.denial.Denial.{Denial}
 use Rattle.gate.specs.State.{State}
 use Rattle.job.specs.Books.{heldIn, sheets, floorOf}
 use Rattle.job.specs.Words.{words}

@@ -1,0 +1,5 @@
+pub mod Held
+pub mod Shifts
+pub mod Calls
+pub mod Cards
+pub mod Piles

@@ -1,0 +1,6 @@
+pub mod Records
+pub mod Orderly
+pub mod Ledger
+pub mod Owned
+pub mod Card
+pub mod Pile

@@ -1,0 +1,7 @@
+// Books that keep their entries in records: the ledger over a lent table, the ledger with its table inside, and the card book.
+pub mod card;
+pub mod ledger;
+pub mod owned;
+pub mod pile;
+mod records;
+mod table;
