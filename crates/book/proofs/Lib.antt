@@ -3,3 +3,4 @@ pub mod Outcomes
 pub mod Exact
 pub mod Listed
 pub mod Layers
+pub mod Piles

@@ -4,3 +4,4 @@ pub mod Meaning
 pub mod Laws
 pub mod Sheet
 pub mod Recall
+pub mod Pile

@@ -1,5 +1,8 @@
 // Runs jobs and compares each answer with the one that it should get, explanations left out.
 ghost use Rattle.console.specs.Desks.{Console-sound};
+
+mod pile;
+
 use console::console::Console;
 use console::words::AnswerDisplay;
 use job::next_line;
@@ -91,7 +94,25 @@ fn run_case(rt: &LibcRuntime, name: &str) -> Result<(), AnyError> {
     Ok(())
 }
 
+// Works the pile of two recall layers.
+fn run_pile(rt: &LibcRuntime) -> Result<(), AnyError> {
+    let answers = pile::worked_pile();
+    if answers.found.is_some()
+        || answers.filed.is_ok()
+        || answers.struck.is_ok()
+        || answers.other.is_err()
+    {
+        return Err("the pile does not recall".into());
+    }
+    println!(
+        rt,
+        "pile: a recalled entry is not found, filed or struck, and another is filed"
+    )?;
+    Ok(())
+}
+
 fn run(rt: &LibcRuntime) -> Result<(), AnyError> {
+    run_pile(rt)?;
     for name in &CASES {
         run_case(rt, name)?;
     }

@@ -21,7 +21,7 @@ use Rattle.console.specs.declared.answer.Fault.{Fault}
 use Rattle.console.specs.declared.answer.Fault.the-variants as faults
 use Rattle.console.specs.declared.deed.Deed.{Deed}
 use Rattle.console.specs.declared.deed.Deed.the-variants.{Principal, Statement, File, Strike, List as Listing}
-use Rattle.console.specs.Listings.{all-live}
+use Rattle.gate.specs.Listings.{all-live}
 use Rattle.console.specs.Replies.{Reply, opened-gate, at-gate, row, filed, struck, refused, unreadable, live}
 
 abbrev pub reply : Answer → Reply

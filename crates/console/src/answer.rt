@@ -1,7 +1,7 @@
 // What the console answers to a line.
 use book::entry::Entry;
-use job::Unreadable;
 use denials::denial::Denial;
+use job::Unreadable;
 
 // Why a line has no effect though it is not denied.
 #[derive(Clone, Copy)]

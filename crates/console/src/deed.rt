@@ -2,16 +2,16 @@
 ghost use mathlib.Core.Path.{_≡_};
 ghost use Rattle.gate.specs.State.{state-of};
 ghost use Rattle.console.specs.Deeds.{reply, named-reply, done-reply, Lists, Replies, deed-left};
-ghost use Rattle.console.specs.Listings.{all-live};
+ghost use Rattle.gate.specs.Listings.{all-live};
 ghost use Rattle.console.specs.Replies.{filed, struck};
 use crate::answer::Answer;
 use crate::answer::Fault;
-use crate::listing::live_entries;
 use book::filing::Book;
 use book::register::Register;
-use gate::gate::Gate;
-use std::alloc::Global;
 use denials::denial::Denial;
+use gate::gate::Gate;
+use gate::listing::live_entries;
+use std::alloc::Global;
 
 #[derive(Clone, Copy)]
 pub enum Deed {

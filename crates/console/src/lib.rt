@@ -3,7 +3,6 @@ pub mod answer;
 pub mod console;
 mod deed;
 mod lines;
-pub mod listing;
 mod opening;
 pub mod shelf;
 pub mod words;

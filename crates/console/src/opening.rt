@@ -12,22 +12,22 @@ ghost use Rattle.console.specs.Shelves.{Shelf-sound};
 use crate::shelf::Shelf;
 use crate::shelf::ShelfBook;
 use crate::shelf::ShelfRegister;
-use records::card::CardBook;
 use book::entry::Entry;
 use book::entry::Standing;
 use book::filing::Book;
-use records::owned::OwnedLedger;
 use book::recall::Recall;
 use book::recall::RecallBook;
 use book::recall::RecallRegister;
 use book::sheet::Sheet;
+use denials::denial::Denial;
 use gate::gate::Gate;
 use job::Ground;
 use job::Layers;
 use job::Opening;
 use job::next_entry;
 use job::next_serial;
-use denials::denial::Denial;
+use records::card::CardBook;
+use records::owned::OwnedLedger;
 
 // The book of a console's gate. A layer that a job does not ask for has an empty sheet.
 pub type Pile = Recall<Recall<Shelf>>;

@@ -1,15 +1,15 @@
 // The lowest book of a console's gate: a ledger with its records inside, or a card book.
 ghost use Rattle.console.specs.Shelves.{Shelf-sound, shelf-live, shelf-orderly, shelf-barred, shelf-free};
+use book::entry::Entry;
+use book::filing::Book;
+use book::register::Register;
+use denials::denial::Denial;
 use records::card::CardBook;
 use records::card::CardBookBook;
 use records::card::CardBookRegister;
-use book::entry::Entry;
-use book::filing::Book;
 use records::owned::OwnedLedger;
 use records::owned::OwnedLedgerBook;
 use records::owned::OwnedLedgerRegister;
-use book::register::Register;
-use denials::denial::Denial;
 
 #[derive(Clone, Copy)]
 pub enum Shelf {

@@ -3,9 +3,9 @@ use crate::answer::Answer;
 use crate::answer::Fault;
 use book::entry::Entry;
 use book::entry::Standing;
+use denials::words::DenialDisplay;
 use job::UnreadableDisplay;
 use std::fmt;
-use denials::words::DenialDisplay;
 
 pub impl fmt::Display for Fault as FaultDisplay {
     fn fmt<W: fmt::Write>(&self, f: &mut fmt::Formatter<W>) -> fmt::Result {

@@ -1,1 +1,2 @@
 pub mod AtGate
+pub mod Gathering

@@ -1,3 +1,4 @@
 pub mod State
 pub mod Laws
+pub mod Listings
 pub mod Worked

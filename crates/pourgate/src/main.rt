@@ -1,6 +1,5 @@
 // The pour gate's program: a job of lines in and an answer for each, or the built-in task told in sentences.
 mod jobs;
-mod task;
 
 use std::env;
 use std::error::AnyError;
@@ -9,7 +8,7 @@ fn run(rt: &LibcRuntime) -> Result<(), AnyError> {
     let mut args = env::args(rt)?;
     let _ = args.next();
     match args.next() {
-        None => task::tell(rt),
+        None => morning::tell(rt),
         Some(name) => jobs::run(rt, name.as_str()),
     }
 }

@@ -2,4 +2,3 @@ pub mod Held
 pub mod Shifts
 pub mod Calls
 pub mod Cards
-pub mod Piles

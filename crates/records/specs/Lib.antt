@@ -3,4 +3,3 @@ pub mod Orderly
 pub mod Ledger
 pub mod Owned
 pub mod Card
-pub mod Pile

@@ -4,14 +4,14 @@ ghost use mathlib.Core.Bool.{false};
 ghost use denote.Ref.{now as held-by};
 ghost use Rattle.book.specs.Meaning.{means, empty-book};
 ghost use Rattle.records.specs.Ledger.{ledger-size, Ledger-sound, ledger-live, ledger-free, ledger-orderly, Blank-front, Same-behind, behind-still, behind-onward};
-use book::entry::Entry;
-use book::filing::Book;
 use crate::records::wipe;
-use book::register::Register;
 use crate::table::look_up;
 use crate::table::next_up;
 use crate::table::put_in;
 use crate::table::take_out;
+use book::entry::Entry;
+use book::filing::Book;
+use book::register::Register;
 use denials::denial::Denial;
 
 // A ledger uses no more than this many of the records that it is lent.

@@ -2,6 +2,5 @@
 pub mod card;
 pub mod ledger;
 pub mod owned;
-pub mod pile;
 mod records;
 mod table;

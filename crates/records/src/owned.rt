@@ -6,15 +6,15 @@ ghost use Rattle.book.specs.Meaning.{means, empty-book};
 ghost use Rattle.records.specs.Records.{held};
 ghost use Rattle.records.specs.Orderly.{kept-orderly};
 ghost use Rattle.records.specs.Owned.{Owned-sound, Owned-behind, owned-still, owned-onward};
-use book::entry::BLANK;
-use book::entry::Entry;
-use book::filing::Book;
 use crate::ledger::LEDGER_SIZE;
-use book::register::Register;
 use crate::table::look_up;
 use crate::table::next_up;
 use crate::table::put_in;
 use crate::table::take_out;
+use book::entry::BLANK;
+use book::entry::Entry;
+use book::filing::Book;
+use book::register::Register;
 use denials::denial::Denial;
 
 #[derive(Clone, Copy)]

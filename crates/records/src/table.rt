@@ -5,11 +5,11 @@ ghost use lib.ListN.{getD};
 ghost use Rattle.book.specs.Live.{blank, next-after};
 ghost use Rattle.book.specs.Meaning.{file-answer, file-after, strike-answer, strike-after};
 ghost use Rattle.records.specs.Records.{held, Kept, kept-means};
-use book::entry::Entry;
 use crate::records::find;
 use crate::records::place;
 use crate::records::shift_in;
 use crate::records::shift_out;
+use book::entry::Entry;
 use denials::denial::Denial;
 use denials::denial::Reason;
 

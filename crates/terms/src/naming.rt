@@ -10,12 +10,12 @@ ghost use Rattle.terms.specs.Laws.{LawfulNaming, principal-name, principal-nam
 ghost use Rattle.terms.specs.Named.{rows-of};
 ghost use Rattle.terms.specs.Rows.{principal-form, principal-x, principal-y, statement-form, statement-x, statement-y};
 ghost use Rattle.terms.specs.Written.{Statement, statement-written};
-use denials::denial::Denial;
 use crate::names::Names;
 use crate::principals::Principals;
 use crate::row::PrincipalRow;
 use crate::row::StatementRow;
 use crate::statements::Statements;
+use denials::denial::Denial;
 
 impl Names {
     // No principal and no statement.

@@ -9,9 +9,9 @@ ghost use Rattle.std.specs.Results.{Cases};
 ghost use Rattle.std.specs.declared.result.Result.the-variants.{Ok, Err};
 ghost use Rattle.terms.specs.Naming.{same, position, put-answer, put-after};
 ghost use Rattle.denials.specs.Denials.{denied};
+use crate::row::Row;
 use denials::denial::Denial;
 use denials::denial::Reason;
-use crate::row::Row;
 
 // Whether two rows have the same form and operands.
 pub(crate) fn same<R: Row>(a: R, b: R) -> bool

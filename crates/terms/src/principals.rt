@@ -6,13 +6,13 @@ ghost use lib.ListN.{length, take};
 ghost use Rattle.std.specs.Finite.{nth};
 ghost use Rattle.terms.specs.Naming.{principal-answer, principal-after};
 ghost use Rattle.terms.specs.Tables.{Distinct, PartsEarlier, principal-needs};
-use denials::denial::Denial;
 use crate::place::Placed;
 use crate::place::place;
 use crate::place::row_at;
 use crate::read::read_principal;
 use crate::row::PrincipalRow;
 use crate::row::PrincipalRowRow;
+use denials::denial::Denial;
 
 const LIMIT: usize = 64;
 

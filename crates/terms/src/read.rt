@@ -1,10 +1,10 @@
 // Reading a form and two operands as a row, where so many rows are named.
 ghost use mathlib.Core.Path.{_≡_};
 ghost use Rattle.terms.specs.Naming.{read-principal, read-statement};
-use denials::denial::Denial;
-use denials::denial::Reason;
 use crate::row::PrincipalRow;
 use crate::row::StatementRow;
+use denials::denial::Denial;
+use denials::denial::Reason;
 
 const ATOMIC_PRINCIPALS: u16 = 64;
 

@@ -6,13 +6,13 @@ ghost use lib.ListN.{length, take};
 ghost use Rattle.std.specs.Finite.{nth};
 ghost use Rattle.terms.specs.Naming.{statement-answer, statement-after};
 ghost use Rattle.terms.specs.Tables.{Distinct, PartsEarlier, statement-needs};
-use denials::denial::Denial;
 use crate::place::Placed;
 use crate::place::place;
 use crate::place::row_at;
 use crate::read::read_statement;
 use crate::row::StatementRow;
 use crate::row::StatementRowRow;
+use denials::denial::Denial;
 
 const LIMIT: usize = 256;
 

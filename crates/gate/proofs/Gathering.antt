@@ -11,7 +11,7 @@ use Rattle.std.proofs.shelf.Tests.{cases-lt}
 use Rattle.book.specs.declared.entry.Entry.{Entry}
 use Rattle.book.specs.Live.{Orderly, Next, Follows, next-after}
 use Rattle.book.proofs.Scan.{scan-next}
-use Rattle.console.specs.Listings.{gathered, before}
+use Rattle.gate.specs.Listings.{gathered, before}
 
 module _ (live : ℕ → Option Entry) where
   -- where nothing is live for a while

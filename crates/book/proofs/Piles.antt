@@ -7,11 +7,11 @@ use Prim.Native.Nat.{ℕ}
 use Rattle.std.proofs.shelf.Tests.{cases-bool, cond-true, cond-false}
 use Rattle.std.specs.declared.result.Result.the-variants.{Err}
 use Rattle.denials.specs.Denials.{denied}
 use Rattle.book.specs.Meaning.{Meaning, file-answer, file-after, strike-answer, strike-after}
 use Rattle.book.specs.Sheet.{on}
 use Rattle.book.specs.Recall.{recall-means, recalled-here, recalled-other, recalled-none}
-use Rattle.records.specs.Pile.{piled, Recalled, Passed-on, Piled}
+use Rattle.book.specs.Pile.{piled, Recalled, Passed-on, Piled}
 use Rattle.book.proofs.Layers.{recalled-files, recalled-strikes, files-below, strikes-below}
 
 -- a serial on the sheet of one layer
 recalled-one : (xs : List ℕ) (m : Meaning) → on xs 0 ≡ false → (s : ℕ) → on xs s ≡ true → Recalled (recall-means xs m) s

@@ -1,4 +1,4 @@
-use Rattle.pourgate.proofs.task.name_rows.Given as given
+use Rattle.morning.proofs.name_rows.Given as given
 
 abbrev pub Inv-loop-row : given.InvT-loop-row
 Inv-loop-row g l = g .B·Register .sound (l .gate .book)

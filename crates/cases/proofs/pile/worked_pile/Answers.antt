@@ -2,13 +2,14 @@ use mathlib.Core.Path.{_≡_, refl, ap, _∙_}
 use mathlib.Core.Bool.{false}
 use mathlib.Core.List.{List, [], _∷_}
 use Prim.Native.Nat.{ℕ, _-_}
 use Rattle.records.specs.declared.owned.OwnedLedger.{OwnedLedger}
-use Rattle.records.specs.declared.pile.Answers.{Answers}
+use Rattle.cases.specs.declared.pile.Answers.{Answers}
 use Rattle.book.specs.Meaning.{Meaning, means, file-after}
 use Rattle.records.specs.Records.{held}
 use Rattle.book.specs.Sheet.{sheet-list}
-use Rattle.records.specs.Pile.{piled, asked, a-rule, held-before}
-use Rattle.records.proofs.pile.worked_pile.Needs as need
+use Rattle.cases.specs.Pile.{asked, a-rule, held-before}
+use Rattle.book.specs.Pile.{piled}
+use Rattle.cases.proofs.pile.worked_pile.Needs as need
 
 abbrev owned-means : OwnedLedger → Meaning
 owned-means b = means (held (b .records) (b .count)) (λ s. false) (b .size - b .count)

@@ -1,36 +1,31 @@
-// Piles of recall layers: the law that they keep, and one pile worked through the real books.
+// One pile of two recall layers over a ledger that already holds a recalled entry, worked through the real books.
 ghost use mathlib.Core.Path.{_≡_};
 ghost use mathlib.Core.List.{[], _∷_};
 ghost use Prim.Native.Nat.{_<_};
 ghost use Rattle.book.specs.Meaning.{means};
 ghost use Rattle.book.specs.Sheet.{sheet-list, Sheet-sound};
-ghost use Rattle.records.specs.Pile.{Piled, asked, Worked-pile};
+ghost use Rattle.cases.specs.Pile.{asked, Worked-pile};
 use book::entry::Entry;
 use book::entry::Standing;
 use book::filing::Book;
-use crate::owned::OwnedLedger;
-use crate::owned::OwnedLedgerBook;
-use crate::owned::OwnedLedgerRegister;
 use book::recall::Recall;
 use book::recall::RecallBook;
 use book::recall::RecallRegister;
 use book::register::Register;
 use book::sheet::Sheet;
 use denials::denial::Denial;
+use records::owned::OwnedLedger;
+use records::owned::OwnedLedgerBook;
+use records::owned::OwnedLedgerRegister;
 
 // What a book answers when an entry is looked up, filed and struck, and then another is filed.
 #[derive(Clone, Copy)]
-pub struct Answers {
+pub(crate) struct Answers {
     pub found: Option<Entry>,
     pub filed: Result<(), Denial>,
     pub struck: Result<(), Denial>,
     pub other: Result<(), Denial>,
 }
-
-// Holds the law of piles for every book.
-pub fn piles_hold()
-    ensures piled { λ _. ⌜ Piled ⌝ }
-{}
 
 // Puts the four questions to a book.
 fn ask<B: Book>(book: &mut B, entry: Entry, other: Entry) -> Answers
@@ -62,7 +57,7 @@ fn sheet_of(serial: u16) -> Sheet
 }
 
 // Lays sheets with serials 5 and 6 over a ledger that holds serial 5, and asks the pile for 5 and for 7.
-pub fn worked_pile() -> Answers
+pub(crate) fn worked_pile() -> Answers
     ensures answers { λ r. ⌜ Worked-pile r ⌝ }
 {
     let rule = Entry {

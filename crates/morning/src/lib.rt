@@ -3,16 +3,16 @@ use book::entry::BLANK;
 use book::entry::Entry;
 use book::entry::Standing;
 use book::filing::Book;
+use book::register::Register;
+use denials::denial::Denial;
+use denials::words::DenialDisplay;
+use gate::gate::Gate;
+use gate::listing::live_entries;
 use records::ledger::Ledger;
 use records::ledger::LedgerBook;
 use records::ledger::LedgerRegister;
-use book::register::Register;
-use console::listing::live_entries;
-use gate::gate::Gate;
 use std::error::AnyError;
 use std::io;
-use denials::denial::Denial;
-use denials::words::DenialDisplay;
 
 // A row to name, and what it says.
 struct Row {
@@ -115,7 +115,7 @@ const STATEMENTS: [Row; 10] = [
 // The row's number behind its words, or why it has none.
 fn tell_row(rt: &LibcRuntime, words: &str, answer: Result<u16, Denial>) -> io::Result<()> {
     match answer {
-        Ok(row) => println!(rt, "  row {row}: {words}."),
+        Ok(row) => println!(rt, "  {row}: {words}."),
         Err(denial) => println!(rt, "  {words}: {denial}."),
     }
 }
@@ -133,10 +133,11 @@ fn name_rows<B: Book>(rt: &LibcRuntime, gate: &mut Gate<B>) -> Result<(), AnyErr
     requires { ⌜ B·Register .sound (now gate .book) ⌝ }
     ensures sound { λ _. ⌜ B·Register .sound (now (gate .exit) .book) ⌝ }
 {
-    println!(rt, "The gate names whom and what the morning is about.")?;
+    println!(rt, "It names who takes part, the principals:")?;
     for row in &PRINCIPALS {
         tell_row(rt, row.words, gate.principal(row.form, row.x, row.y))?;
     }
+    println!(rt, "and what can be said, the statements:")?;
     for row in &STATEMENTS {
         tell_row(rt, row.words, gate.statement(row.form, row.x, row.y))?;
     }
@@ -214,7 +215,7 @@ fn keep_the_book<B: Book>(rt: &LibcRuntime, gate: &mut Gate<B>) -> Result<(), An
 }
 
 // Tells the whole task, from an empty ledger of three records on.
-pub(crate) fn tell(rt: &LibcRuntime) -> Result<(), AnyError> {
+pub fn tell(rt: &LibcRuntime) -> Result<(), AnyError> {
     println!(
         rt,
         "The morning of one recipe that needs shop and lab together."

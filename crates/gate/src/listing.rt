@@ -2,12 +2,12 @@
 ghost use mathlib.Core.Path.{_≡_};
 ghost use Rattle.std.specs.Of.Vec.{vec-items};
 ghost use Rattle.std.specs.Vec.{made};
 ghost use Rattle.gate.specs.State.{state-of};
-ghost use Rattle.console.specs.Listings.{all-live};
+ghost use Rattle.gate.specs.Listings.{all-live};
+use crate::gate::Gate;
 use book::entry::Entry;
 use book::filing::Book;
 use book::register::Register;
-use gate::gate::Gate;
 use std::alloc::AllocError;
 use std::alloc::Global;
 
