@@ -20,8 +20,6 @@ pub use lines::next_line;
 pub use lists::Holding;
 pub use lists::next_entry;
 pub use lists::next_serial;
-pub use numbers::number;
 pub use reading::read_line;
 pub use unreadable::Unreadable;
 pub use unreadable::UnreadableDisplay;
-pub use words::next_word;

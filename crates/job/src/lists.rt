@@ -24,9 +24,13 @@ pub struct Holding {
 pub fn next_serial(text: &[u8]) -> Option<(u16, &[u8])>
     ensures { λ r. ⌜ Cases r (listed (words (now (text .entry))) ≡ []) (λ p. listed (words (now (text .entry))) ≡ p .0 ∷ listed (words (now (p .1)))) ⌝ }
 {
-    let (first, after) = next_word(text)?;
-    let serial = number(first, SMALL)?;
-    Some((serial as u16, after))
+    match next_word(text) {
+        None => None,
+        Some((first, after)) => match number(first, SMALL) {
+            None => None,
+            Some(serial) => Some((serial as u16, after)),
+        },
+    }
 }
 
 // The entry that a word is: three numbers parted by colons, the middle one 1 or 2.
@@ -36,9 +40,15 @@ pub(crate) fn read_entry(text: &[u8]) -> Option<Holding>
 {
     let (first, after) = cut(text, b':');
     let (second, third) = cut(after, b':');
-    let serial = number(first, SMALL)?;
-    let standing = number(second, STANDING)?;
-    let row = number(third, SMALL)?;
+    let Some(serial) = number(first, SMALL) else {
+        return None;
+    };
+    let Some(standing) = number(second, STANDING) else {
+        return None;
+    };
+    let Some(row) = number(third, SMALL) else {
+        return None;
+    };
     if standing == 0 {
         return None;
     }
@@ -54,7 +64,11 @@ pub fn next_entry(text: &[u8]) -> Option<(Holding, &[u8])>
     ensures answer { λ r. ⌜ Cases r (heldIn (words (now (text .entry))) ≡ []) (λ p. heldIn (words (now (text .entry))) ≡ held (p .0 .serial) (p .0 .standing) (p .0 .row) ∷ heldIn (words (now (p .1)))) ⌝ }
     ensures standing { λ r. ⌜ Cases r (Unit {0}) (λ p. (1 ≤ p .0 .standing) × (p .0 .standing ≤ 2)) ⌝ }
 {
-    let (first, after) = next_word(text)?;
-    let holding = read_entry(first)?;
-    Some((holding, after))
+    match next_word(text) {
+        None => None,
+        Some((first, after)) => match read_entry(first) {
+            None => None,
+            Some(holding) => Some((holding, after)),
+        },
+    }
 }

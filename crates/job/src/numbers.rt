@@ -6,7 +6,7 @@ ghost use Rattle.std.specs.declared.option.Option.the-variants.{Some};
 ghost use Rattle.job.specs.Numbers.{number, Number};
 
 // The value of the word, if it is a number of at most `limit`. A value that passes the limit ends the reading, so nothing wraps.
-pub fn number(text: &[u8], limit: u32) -> Option<u32>
+pub(crate) fn number(text: &[u8], limit: u32) -> Option<u32>
     ensures value { λ r. ⌜ r ≡ number limit (now (text .entry)) ⌝ }
     ensures within { λ r. ⌜ Cases r (Unit {0}) (λ n. n ≤ limit) ⌝ }
     ensures exactly { λ r. ⌜ ((n : ℕ) → (r ≡ Some n → Number limit (now (text .entry)) n) × (Number limit (now (text .entry)) n → r ≡ Some n)) ⌝ }

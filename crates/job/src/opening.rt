@@ -1,16 +1,18 @@
 // Reads what stands behind `open`: a gate number and the book to open the gate over.
 ghost use mathlib.Core.Path.{_≡_};
-ghost use Rattle.std.specs.Options.{Cases as BySome};
+ghost use mathlib.Core.Bool.{true, false};
 ghost use Rattle.std.specs.Results.{Cases};
-ghost use Rattle.std.specs.declared.option.Option.the-variants.{Some, None};
+ghost use Rattle.std.specs.declared.option.Option.the-variants.{None};
 ghost use Rattle.std.specs.declared.result.Result.the-variants.{Ok, Err};
-ghost use Rattle.job.specs.Books.{listed, pastOver, layer, layers, floor, allHeld, heldIn, entries, sheets, floorOf};
-ghost use Rattle.job.specs.Commands.{opening, opens};
+ghost use Rattle.job.specs.Books.{listed, pastOver, recalling, layer, layers, floor, allHeld, heldIn, entries, sheets, floorOf};
+ghost use Rattle.job.specs.Commands.{answered, heard, opening};
 ghost use Rattle.job.specs.Operands.{part};
-ghost use Rattle.job.specs.Words.{words};
+ghost use Rattle.job.specs.Words.{rest, words};
+use crate::command::Command;
 use crate::command::Ground;
 use crate::command::Layers;
 use crate::command::Opening;
+use crate::command::Reading;
 use crate::keyword::spells;
 use crate::limits::GATE;
 use crate::limits::RECORDS;
@@ -20,6 +22,8 @@ use crate::numbers::number;
 use crate::operands::first_number;
 use crate::unreadable::Unreadable;
 use crate::words::next_word;
+use crate::words::rest_of;
+use crate::words::word_of;
 
 // What follows the serials of a layer and the word `over` behind them.
 fn past_over(text: &[u8]) -> Result<&[u8], Unreadable>
@@ -30,39 +34,47 @@ fn past_over(text: &[u8]) -> Result<&[u8], Unreadable>
         if spells(word, b"over") {
             return Ok(after);
         }
-        if number(word, SMALL).is_none() {
+        let Some(_) = number(word, SMALL) else {
             return Err(Unreadable::BadNumber);
-        }
+        };
         rest = after;
     }
     Err(Unreadable::MissingWord)
 }
 
-// The layer that the text begins with, if any: the text of its serials, and what follows `over`.
-fn read_layer(rest: &[u8]) -> Result<Option<(&[u8], &[u8])>, Unreadable>
-    ensures { λ r. ⌜ Cases r (λ o. BySome o (layer (words (now (rest .entry))) ≡ Ok None) (λ p. layer (words (now (rest .entry))) ≡ Ok (Some (part (listed (words (now (p .0)))) (words (now (p .1))))))) (λ e. layer (words (now (rest .entry))) ≡ Err e) ⌝ }
+// Whether the text begins with a layer.
+fn is_layer(text: &[u8]) -> bool
+    ensures no { λ r. ⌜ (r ≡ false → layer (words (now (text .entry))) ≡ Ok None) ⌝ }
+    ensures yes { λ r. ⌜ (r ≡ true → layer (words (now (text .entry))) ≡ recalling (listed (words (rest (now (text .entry))))) (pastOver (words (rest (now (text .entry)))))) ⌝ }
 {
-    let Some((word, serials)) = next_word(rest) else {
-        return Ok(None);
-    };
-    if !spells(word, b"recall") {
-        return Ok(None);
+    let word = word_of(text);
+    if word.is_empty() {
+        return false;
     }
-    let below = past_over(serials)?;
-    Ok(Some((serials, below)))
+    spells(word, b"recall")
 }
 
 // The layers that the text begins with, two at most, and what follows them.
-fn read_layers(rest: &[u8]) -> Result<(Layers<'_>, &[u8]), Unreadable>
-    ensures { λ r. ⌜ Cases r (λ p. layers (words (now (rest .entry))) ≡ Ok (part (sheets (p .0)) (words (now (p .1))))) (λ e. layers (words (now (rest .entry))) ≡ Err e) ⌝ }
+fn read_layers(text: &[u8]) -> Result<(Layers<'_>, &[u8]), Unreadable>
+    ensures { λ r. ⌜ Cases r (λ p. layers (words (now (text .entry))) ≡ Ok (part (sheets (p .0)) (words (now (p .1))))) (λ e. layers (words (now (text .entry))) ≡ Err e) ⌝ }
 {
-    let Some((first, below)) = read_layer(rest)? else {
-        return Ok((Layers::Bare, rest));
-    };
-    let Some((second, lowest)) = read_layer(below)? else {
-        return Ok((Layers::One(first), below));
-    };
-    Ok((Layers::Two(first, second), lowest))
+    if !is_layer(text) {
+        return Ok((Layers::Bare, text));
+    }
+    let first = rest_of(text);
+    match past_over(first) {
+        Err(why) => Err(why),
+        Ok(below) => {
+            if !is_layer(below) {
+                return Ok((Layers::One(first), below));
+            }
+            let second = rest_of(below);
+            match past_over(second) {
+                Err(why) => Err(why),
+                Ok(lowest) => Ok((Layers::Two(first, second), lowest)),
+            }
+        }
+    }
 }
 
 // The lowest book, and what follows it.
@@ -78,8 +90,10 @@ fn read_ground(rest: &[u8]) -> Result<(Ground, &[u8]), Unreadable>
     if !spells(word, b"ledger") {
         return Err(Unreadable::BadBook);
     }
-    let (records, after) = first_number(after, RECORDS)?;
-    Ok((Ground::Ledger(records), after))
+    match first_number(after, RECORDS) {
+        Err(why) => Err(why),
+        Ok(records) => Ok((Ground::Ledger(records), rest_of(after))),
+    }
 }
 
 // Whether every word of the text is an entry.
@@ -88,9 +102,9 @@ fn all_entries(text: &[u8]) -> bool
 {
     let mut rest = text;
     while let Some((word, after)) = next_word(rest) {
-        if read_entry(word).is_none() {
+        let Some(_) = read_entry(word) else {
             return false;
-        }
+        };
         rest = after;
     }
     true
@@ -106,27 +120,35 @@ fn read_entries(rest: &[u8]) -> Result<&[u8], Unreadable>
     if !spells(word, b"with") {
         return Err(Unreadable::ExtraWord);
     }
-    if next_word(text).is_none() {
+    let Some(_) = next_word(text) else {
         return Err(Unreadable::MissingWord);
-    }
+    };
     if !all_entries(text) {
         return Err(Unreadable::BadEntry);
     }
     Ok(text)
 }
 
-// The gate and the book that the words behind `open` name.
-pub(crate) fn read_opening(rest: &[u8]) -> Result<Opening<'_>, Unreadable>
-    ensures { λ r. ⌜ Cases r (λ o. opening (words (now (rest .entry))) ≡ Ok (opens (o .gate) (sheets (o .layers)) (floorOf (o .ground)) (heldIn (words (now (o .entries)))))) (λ e. opening (words (now (rest .entry))) ≡ Err e) ⌝ }
+// The command `open` with the gate and the book behind it.
+pub(crate) fn read_opening(rest: &[u8]) -> Reading<'_>
+    ensures { λ r. ⌜ heard r ≡ answered (opening (words (now (rest .entry)))) ⌝ }
 {
-    let (gate, rest) = first_number(rest, GATE)?;
-    let (layers, rest) = read_layers(rest)?;
-    let (ground, rest) = read_ground(rest)?;
-    let entries = read_entries(rest)?;
-    Ok(Opening {
-        gate,
-        layers,
-        ground,
-        entries,
-    })
+    match first_number(rest, GATE) {
+        Err(why) => Reading::Unreadable(why),
+        Ok(gate) => match read_layers(rest_of(rest)) {
+            Err(why) => Reading::Unreadable(why),
+            Ok((layers, rest)) => match read_ground(rest) {
+                Err(why) => Reading::Unreadable(why),
+                Ok((ground, rest)) => match read_entries(rest) {
+                    Err(why) => Reading::Unreadable(why),
+                    Ok(entries) => Reading::Command(Command::Open(Opening {
+                        gate,
+                        layers,
+                        ground,
+                        entries,
+                    })),
+                },
+            },
+        },
+    }
 }

@@ -1,12 +1,10 @@
 // Reads a line as a command.
 ghost use mathlib.Core.Path.{_≡_};
-ghost use Rattle.std.specs.Results.{Cases};
-ghost use Rattle.std.specs.declared.result.Result.the-variants.{Ok, Err};
-ghost use Rattle.job.specs.Commands.{saying, spokenBy, reading, said, heard};
+ghost use Rattle.job.specs.Commands.{answered, told, toldThree, turns, principal, statement, files, strikes, lists, spokenBy, reading, heard};
 ghost use Rattle.job.specs.Grammar.{Exactly};
 ghost use Rattle.job.specs.Keywords.{keyword};
-ghost use Rattle.job.specs.Limits.{codeLimit, smallLimit};
-ghost use Rattle.job.specs.Operands.{three, triple};
+ghost use Rattle.job.specs.Limits.{gateLimit, codeLimit, smallLimit};
+ghost use Rattle.job.specs.Operands.{closed, one, three};
 ghost use Rattle.job.specs.Words.{words};
 use crate::command::Command;
 use crate::command::Reading;
@@ -17,52 +15,81 @@ use crate::limits::GATE;
 use crate::limits::SMALL;
 use crate::opening::read_opening;
 use crate::operands::one_number;
-use crate::operands::only;
 use crate::operands::three_numbers;
 use crate::unreadable::Unreadable;
 use crate::words::next_word;
+use crate::words::word_of;
 
-// A form and two operands.
-fn form_and_operands(rest: &[u8]) -> Result<(u8, u16, u16), Unreadable>
-    ensures { λ r. ⌜ Cases r (λ t. three codeLimit smallLimit smallLimit (words (now (rest .entry))) ≡ Ok (triple (t .0) (t .1) (t .2))) (λ e. three codeLimit smallLimit smallLimit (words (now (rest .entry))) ≡ Err e) ⌝ }
+// The command `at` with the gate number behind it.
+fn read_at(rest: &[u8]) -> Reading<'_>
+    ensures { λ r. ⌜ heard r ≡ answered (told turns (one gateLimit (words (now (rest .entry))))) ⌝ }
 {
-    let (form, x, y) = three_numbers(rest, CODE, SMALL, SMALL)?;
-    Ok((form as u8, x as u16, y as u16))
+    match one_number(rest, GATE) {
+        Err(why) => Reading::Unreadable(why),
+        Ok(gate) => Reading::Command(Command::At(gate)),
+    }
 }
 
-// A serial, a standing and a row.
-fn entry_parts(rest: &[u8]) -> Result<(u16, u8, u16), Unreadable>
-    ensures { λ r. ⌜ Cases r (λ t. three smallLimit codeLimit smallLimit (words (now (rest .entry))) ≡ Ok (triple (t .0) (t .1) (t .2))) (λ e. three smallLimit codeLimit smallLimit (words (now (rest .entry))) ≡ Err e) ⌝ }
+// The command `principal` with the form and the operands behind it.
+fn read_principal(rest: &[u8]) -> Reading<'_>
+    ensures { λ r. ⌜ heard r ≡ answered (toldThree principal (three codeLimit smallLimit smallLimit (words (now (rest .entry))))) ⌝ }
 {
-    let (serial, standing, row) = three_numbers(rest, SMALL, CODE, SMALL)?;
-    Ok((serial as u16, standing as u8, row as u16))
+    match three_numbers(rest, CODE, SMALL, SMALL) {
+        Err(why) => Reading::Unreadable(why),
+        Ok((form, x, y)) => Reading::Command(Command::Principal {
+            form: form as u8,
+            x: x as u16,
+            y: y as u16,
+        }),
+    }
 }
 
-// The command of the keyword with the words behind it.
-fn read_operands(word: Keyword, rest: &[u8]) -> Result<Command<'_>, Unreadable>
-    ensures { λ r. ⌜ Cases r (λ c. saying word (words (now (rest .entry))) ≡ Ok (said c)) (λ e. saying word (words (now (rest .entry))) ≡ Err e) ⌝ }
+// The command `statement` with the form and the operands behind it.
+fn read_statement(rest: &[u8]) -> Reading<'_>
+    ensures { λ r. ⌜ heard r ≡ answered (toldThree statement (three codeLimit smallLimit smallLimit (words (now (rest .entry))))) ⌝ }
 {
-    match word {
-        Keyword::Open => Ok(Command::Open(read_opening(rest)?)),
-        Keyword::At => Ok(Command::At(one_number(rest, GATE)?)),
-        Keyword::Principal => {
-            let (form, x, y) = form_and_operands(rest)?;
-            Ok(Command::Principal { form, x, y })
-        }
-        Keyword::Statement => {
-            let (form, x, y) = form_and_operands(rest)?;
-            Ok(Command::Statement { form, x, y })
-        }
-        Keyword::File => {
-            let (serial, standing, row) = entry_parts(rest)?;
-            Ok(Command::File {
-                serial,
-                standing,
-                row,
-            })
-        }
-        Keyword::Strike => Ok(Command::Strike(one_number(rest, SMALL)? as u16)),
-        Keyword::Book => only(Command::Book, rest),
+    match three_numbers(rest, CODE, SMALL, SMALL) {
+        Err(why) => Reading::Unreadable(why),
+        Ok((form, x, y)) => Reading::Command(Command::Statement {
+            form: form as u8,
+            x: x as u16,
+            y: y as u16,
+        }),
+    }
+}
+
+// The command `file` with the serial, the standing and the row behind it.
+fn read_file(rest: &[u8]) -> Reading<'_>
+    ensures { λ r. ⌜ heard r ≡ answered (toldThree files (three smallLimit codeLimit smallLimit (words (now (rest .entry))))) ⌝ }
+{
+    match three_numbers(rest, SMALL, CODE, SMALL) {
+        Err(why) => Reading::Unreadable(why),
+        Ok((serial, standing, row)) => Reading::Command(Command::File {
+            serial: serial as u16,
+            standing: standing as u8,
+            row: row as u16,
+        }),
+    }
+}
+
+// The command `strike` with the serial behind it.
+fn read_strike(rest: &[u8]) -> Reading<'_>
+    ensures { λ r. ⌜ heard r ≡ answered (told strikes (one smallLimit (words (now (rest .entry))))) ⌝ }
+{
+    match one_number(rest, SMALL) {
+        Err(why) => Reading::Unreadable(why),
+        Ok(serial) => Reading::Command(Command::Strike(serial as u16)),
+    }
+}
+
+// The command `book`, behind which no word stands.
+fn read_book(rest: &[u8]) -> Reading<'_>
+    ensures { λ r. ⌜ heard r ≡ answered (closed lists (words (now (rest .entry)))) ⌝ }
+{
+    if word_of(rest).is_empty() {
+        Reading::Command(Command::Book)
+    } else {
+        Reading::Unreadable(Unreadable::ExtraWord)
     }
 }
 
@@ -72,10 +99,13 @@ fn read_words<'a>(first: &[u8], rest: &'a [u8]) -> Reading<'a>
 {
     match keyword_of(first) {
         None => Reading::Unreadable(Unreadable::UnknownCommand),
-        Some(word) => match read_operands(word, rest) {
-            Ok(command) => Reading::Command(command),
-            Err(why) => Reading::Unreadable(why),
-        },
+        Some(Keyword::Open) => read_opening(rest),
+        Some(Keyword::At) => read_at(rest),
+        Some(Keyword::Principal) => read_principal(rest),
+        Some(Keyword::Statement) => read_statement(rest),
+        Some(Keyword::File) => read_file(rest),
+        Some(Keyword::Strike) => read_strike(rest),
+        Some(Keyword::Book) => read_book(rest),
     }
 }
 

@@ -11,15 +11,20 @@ pub enum Unreadable {
     BadEntry,
 }
 
+// The reason in words.
+fn reason(why: Unreadable) -> &'static str {
+    match why {
+        Unreadable::UnknownCommand => "no such command",
+        Unreadable::MissingWord => "a word is missing",
+        Unreadable::ExtraWord => "there is a word too many",
+        Unreadable::BadNumber => "not a number, or too large",
+        Unreadable::BadBook => "no such book",
+        Unreadable::BadEntry => "not an entry SERIAL:STANDING:ROW",
+    }
+}
+
 pub impl fmt::Display for Unreadable as UnreadableDisplay {
     fn fmt<W: fmt::Write>(&self, f: &mut fmt::Formatter<W>) -> fmt::Result {
-        match self {
-            Unreadable::UnknownCommand => f.write_str("no such command"),
-            Unreadable::MissingWord => f.write_str("a word is missing"),
-            Unreadable::ExtraWord => f.write_str("there is a word too many"),
-            Unreadable::BadNumber => f.write_str("not a number, or too large"),
-            Unreadable::BadBook => f.write_str("no such book"),
-            Unreadable::BadEntry => f.write_str("not an entry SERIAL:STANDING:ROW"),
-        }
+        f.write_str(reason(*self))
     }
 }

@@ -47,7 +47,7 @@ fn trim(text: &[u8]) -> &[u8]
 }
 
 // The first word of the line and what follows it, or nothing where the line has no word.
-pub fn next_word(line: &[u8]) -> Option<(&[u8], &[u8])>
+pub(crate) fn next_word(line: &[u8]) -> Option<(&[u8], &[u8])>
     ensures first { λ r. ⌜ Cases r (words (now (line .entry)) ≡ []) (λ p. words (now (line .entry)) ≡ now (p .0) ∷ words (now (p .1))) ⌝ }
     ensures parts { λ r. ⌜ Cases r (word (now (line .entry)) ≡ []) (λ p. (now (p .0) ≡ word (now (line .entry))) × (now (p .1) ≡ rest (now (line .entry)))) ⌝ }
     ensures whole { λ _. ⌜ joined (λ w. w) (words (now (line .entry))) ≡ without 32 (now (line .entry)) ⌝ }
@@ -59,4 +59,21 @@ pub fn next_word(line: &[u8]) -> Option<(&[u8], &[u8])>
     } else {
         Some((first, after))
     }
+}
+
+// The first word of the line, empty where the line has none.
+pub(crate) fn word_of(line: &[u8]) -> &[u8]
+    ensures none { λ r. ⌜ (length (now r) ≡ 0 → words (now (line .entry)) ≡ []) ⌝ }
+    ensures some { λ r. ⌜ ((length (now r) ≡ 0 → ⊥) → words (now (line .entry)) ≡ now r ∷ words (rest (now (line .entry)))) ⌝ }
+{
+    let (first, _) = cut(trim(line), b' ');
+    first
+}
+
+// What follows the first word of the line.
+pub(crate) fn rest_of(line: &[u8]) -> &[u8]
+    ensures { λ r. ⌜ now r ≡ rest (now (line .entry)) ⌝ }
+{
+    let (_, after) = cut(trim(line), b' ');
+    after
 }
