@@ -27,7 +27,7 @@ impl Sheet {
     }
 
     // Whether a serial is on the sheet.
-    pub fn contains(&self, serial: u16) -> bool
+    pub(crate) fn contains(&self, serial: u16) -> bool
         requires { ⌜ Sheet-sound (now self) ⌝ }
         ensures answer { λ r. ⌜ r ≡ on (sheet-list (now (self .entry))) serial ⌝ }
     {

@@ -9,7 +9,7 @@ ghost use Rattle.job.specs.Commands.{said, reading};
 ghost use Rattle.console.specs.Deeds.{reply};
 ghost use Rattle.console.specs.Desks.{Console-sound, desk, desk-of, place-of, Admits, Opens, turn-reply, turned, AtGate, Did, Heeded, answered-as};
 ghost use Rattle.console.specs.Piles.{Pile-sound, pile-state};
-ghost use Rattle.job.specs.Books.{heldIn, sheets, floorOf};
+ghost use Rattle.job.specs.Books.{held-in, sheets, floor-of};
 ghost use Rattle.job.specs.Words.{words};
 ghost use Rattle.console.specs.Openings.{opened};
 use crate::answer::Answer;
@@ -80,7 +80,7 @@ impl Console {
     fn open(&mut self, opening: Opening) -> Answer
         requires { ⌜ Console-sound (now self) ⌝ }
         ensures sound { λ _. ⌜ Console-sound (now (self .exit)) ⌝ }
-        ensures did { λ r. ⌜ Opens (desk-of (now (self .entry))) (opening .entry .gate) (opened (opening .entry .gate) (sheets (opening .entry .layers)) (floorOf (opening .entry .ground)) (heldIn (words (now (opening .entry .entries))))) (reply r) (desk-of (now (self .exit))) ⌝ }
+        ensures did { λ r. ⌜ Opens (desk-of (now (self .entry))) (opening .entry .gate) (opened (opening .entry .gate) (sheets (opening .entry .layers)) (floor-of (opening .entry .ground)) (held-in (words (now (opening .entry .entries))))) (reply r) (desk-of (now (self .exit))) ⌝ }
     {
         if place_of(&self.gates, opening.gate).is_some() {
             return Answer::Unreadable(Fault::OpenAlready);

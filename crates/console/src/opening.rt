@@ -4,7 +4,7 @@ ghost use mathlib.Core.List.{[]};
 ghost use Rattle.std.specs.Results.{Cases};
 ghost use Rattle.std.specs.declared.result.Result.the-variants.{Ok, Err};
 ghost use Rattle.book.specs.Sheet.{sheet-list, Sheet-sound};
-ghost use Rattle.job.specs.Books.{listed, heldIn, sheets, floorOf};
+ghost use Rattle.job.specs.Books.{listed, held-in, sheets, floor-of};
 ghost use Rattle.job.specs.Words.{words};
 ghost use Rattle.console.specs.Openings.{filled, both-filled, stocked, opened, standing-of, shelf-means, floor-means};
 ghost use Rattle.console.specs.Piles.{Pile-sound, pile-state};
@@ -59,7 +59,7 @@ fn standing_of(number: u8) -> Standing
 // The book with the entries of the text filed in it.
 fn stock(book: Shelf, text: &[u8]) -> Result<Shelf, Denial>
     requires { ⌜ Shelf-sound book ⌝ }
-    ensures answer { λ r. ⌜ Cases r (λ b. stocked (shelf-means book) (heldIn (words (now (text .entry)))) ≡ Ok (shelf-means b)) (λ d. stocked (shelf-means book) (heldIn (words (now (text .entry)))) ≡ Err d) ⌝ }
+    ensures answer { λ r. ⌜ Cases r (λ b. stocked (shelf-means book) (held-in (words (now (text .entry)))) ≡ Ok (shelf-means b)) (λ d. stocked (shelf-means book) (held-in (words (now (text .entry)))) ≡ Err d) ⌝ }
     ensures sound { λ r. ⌜ Cases r Shelf-sound (λ d. Unit {0}) ⌝ }
 {
     let mut stocked = book;
@@ -77,7 +77,7 @@ fn stock(book: Shelf, text: &[u8]) -> Result<Shelf, Denial>
 
 // A new lowest book.
 fn lowest(ground: Ground) -> Shelf
-    ensures means { λ r. ⌜ shelf-means r ≡ floor-means (floorOf ground) ⌝ }
+    ensures means { λ r. ⌜ shelf-means r ≡ floor-means (floor-of ground) ⌝ }
     ensures sound { λ r. ⌜ Shelf-sound r ⌝ }
 {
     match ground {
@@ -100,7 +100,7 @@ fn sheets_of(layers: Layers) -> Result<(Sheet, Sheet), Denial>
 
 // The gate that an opening asks for, or what a sheet or the book denied.
 pub(crate) fn open_gate(opening: Opening) -> Result<Gate<Pile>, Denial>
-    ensures answer { λ r. ⌜ Cases r (λ g. opened (opening .entry .gate) (sheets (opening .entry .layers)) (floorOf (opening .entry .ground)) (heldIn (words (now (opening .entry .entries)))) ≡ Ok (pile-state g)) (λ d. opened (opening .entry .gate) (sheets (opening .entry .layers)) (floorOf (opening .entry .ground)) (heldIn (words (now (opening .entry .entries)))) ≡ Err d) ⌝ }
+    ensures answer { λ r. ⌜ Cases r (λ g. opened (opening .entry .gate) (sheets (opening .entry .layers)) (floor-of (opening .entry .ground)) (held-in (words (now (opening .entry .entries)))) ≡ Ok (pile-state g)) (λ d. opened (opening .entry .gate) (sheets (opening .entry .layers)) (floor-of (opening .entry .ground)) (held-in (words (now (opening .entry .entries)))) ≡ Err d) ⌝ }
     ensures sound { λ r. ⌜ Cases r (λ g. Pile-sound (g .book)) (λ d. Unit {0}) ⌝ }
 {
     let (upper, lower) = sheets_of(opening.layers)?;

@@ -18,18 +18,18 @@ use Rattle.std.proofs.shelf.Equals.{sameBytes-decides}
 use Rattle.std.proofs.shelf.Tests.{cases-bool, cond-true, cond-false, ne-eqb}
 use Rattle.job.specs.declared.unreadable.Unreadable.{Unreadable}
 use Rattle.job.specs.declared.unreadable.Unreadable.the-variants.{BadEntry}
-use Rattle.job.specs.Books.{Floor, ledger, card, Held, held, listing, listed, passing, pastOver, recalling, layer, below, layers, floor, given, entry, holding, heldIn, also, allHeld, someHeld, entries}
-use Rattle.job.specs.Commands.{Said, opens, turns, principal, statement, files, strikes, lists, Heard, command, told, toldThree, toldHeld, opening, answered, spoken}
+use Rattle.job.specs.Books.{Floor, ledger, card, Held, held, listing, listed, passing, behind-over, recalling, layer, below, layers, floor, given, entry, holding, held-in, also, all-held, some-held, entries}
+use Rattle.job.specs.Commands.{Said, opens, turns, principal, statement, files, strikes, lists, Heard, command, told, told-three, told-held, opening, answered, spoken}
 use Rattle.job.specs.Grammar.{Serials, no-serial, serial, Sheets, bare, over, Base, a-ledger, a-card, Entry, parts, Entries, no-entry, one-entry, Ending, nothing, with-entries, Line, open-line, at-line, principal-line, statement-line, file-line, strike-line, book-line}
-use Rattle.job.specs.Limits.{gateLimit, smallLimit, standingLimit}
+use Rattle.job.specs.Limits.{gate-limit, small-limit, standing-limit}
 use Rattle.job.specs.Numbers.{number, Number}
-use Rattle.job.specs.Operands.{Part, part, Triple, triple, on, counted, firstNumber, closed, one, three}
+use Rattle.job.specs.Operands.{Part, part, Triple, triple, on, counted, leading-number, closed, one, three}
 use Rattle.job.specs.Words.{front, behind}
 use Rattle.job.proofs.Values.{number-from}
 
 -- numbers
 
-first-is : {limit n : ℕ} {w : List ℕ} (ws : List (List ℕ)) → Number limit w n → firstNumber limit (w ∷ ws) ≡ Ok (part n ws)
+first-is : {limit n : ℕ} {w : List ℕ} (ws : List (List ℕ)) → Number limit w n → leading-number limit (w ∷ ws) ≡ Ok (part n ws)
 first-is {limit} {n} {w} ws h = ap (λ o. counted o ws) (number-from limit w n h)
 
 one-is : {limit n : ℕ} {w : List ℕ} → Number limit w n → one limit (w ∷ []) ≡ Ok n
@@ -37,8 +37,8 @@ one-is h = ap (λ r. on r closed) (first-is [] h)
 
 three-is : {a b c l m n : ℕ} {x y z : List ℕ} → Number a x l → Number b y m → Number c z n → three a b c (x ∷ y ∷ z ∷ []) ≡ Ok (triple l m n)
 three-is {a} {b} {c} {l} {m} {n} {x} {y} {z} f g h =
-    ap (λ r. on r (λ i is. on (firstNumber b is) (λ j js. on (firstNumber c js) (λ k ks. closed (triple i j k) ks)))) (first-is (y ∷ z ∷ []) f)
-    ∙ ap (λ r. on r (λ j js. on (firstNumber c js) (λ k ks. closed (triple l j k) ks))) (first-is (z ∷ []) g)
+    ap (λ r. on r (λ i is. on (leading-number b is) (λ j js. on (leading-number c js) (λ k ks. closed (triple i j k) ks)))) (first-is (y ∷ z ∷ []) f)
+    ∙ ap (λ r. on r (λ j js. on (leading-number c js) (λ k ks. closed (triple l j k) ks))) (first-is (z ∷ []) g)
     ∙ ap (λ r. on r (λ k ks. closed (triple l m k) ks)) (first-is [] h)
 
 -- layers
@@ -54,19 +54,19 @@ not-over {limit} {n} {w} h =
     (λ e. e)
     (cases-bool (sameBytes w (codes "over")))
 
-past-is : {ws : List (List ℕ)} {ns : List ℕ} → Serials ws ns → (after : List (List ℕ)) → pastOver (ws ++ codes "over" ∷ after) ≡ Ok after
+past-is : {ws : List (List ℕ)} {ns : List ℕ} → Serials ws ns → (after : List (List ℕ)) → behind-over (ws ++ codes "over" ∷ after) ≡ Ok after
 past-is no-serial after = refl
 past-is (serial {w} {ws} {n} h s) after =
-    cond-false _ _ _ (not-over h) ∙ ap (λ o. passing o (pastOver (ws ++ codes "over" ∷ after))) (number-from smallLimit w n h) ∙ past-is s after
+    cond-false _ _ _ (not-over h) ∙ ap (λ o. passing o (behind-over (ws ++ codes "over" ∷ after))) (number-from small-limit w n h) ∙ past-is s after
 
 listed-is : {ws : List (List ℕ)} {ns : List ℕ} → Serials ws ns → (after : List (List ℕ)) → listed (ws ++ codes "over" ∷ after) ≡ ns
 listed-is no-serial after = refl
 listed-is (serial {w} {ws} {n} h s) after =
-    ap (λ o. listing o (listed (ws ++ codes "over" ∷ after))) (number-from smallLimit w n h) ∙ ap (λ l. n ∷ l) (listed-is s after)
+    ap (λ o. listing o (listed (ws ++ codes "over" ∷ after))) (number-from small-limit w n h) ∙ ap (λ l. n ∷ l) (listed-is s after)
 
 layer-is : {ws : List (List ℕ)} {ns : List ℕ} → Serials ws ns → (after : List (List ℕ)) → layer (codes "recall" ∷ (ws ++ codes "over" ∷ after)) ≡ Ok (Some (part ns after))
 layer-is {ws} {ns} s after =
-    ap (λ l. recalling l (pastOver (ws ++ codes "over" ∷ after))) (listed-is s after) ∙ ap (recalling ns) (past-is s after)
+    ap (λ l. recalling l (behind-over (ws ++ codes "over" ∷ after))) (listed-is s after) ∙ ap (recalling ns) (past-is s after)
 
 abbrev then-second : List ℕ → Result (Option (Part (List ℕ))) Unreadable → List (List ℕ) → Result (Part (List (List ℕ))) Unreadable
 then-second ns r xs = below r (Ok (part (ns ∷ []) xs)) (λ ms ys. Ok (part (ns ∷ ms ∷ []) ys))
@@ -113,7 +113,7 @@ behind-digits (c ∷ s) x d = cond-false _ _ _ (ne-eqb c 58 (λ e. omega (arith,
 -- an entry from its three parts
 abbrev from-parts : List ℕ → List ℕ → List ℕ → Option Held
 from-parts s t r =
-    given (number smallLimit s) (λ serial. given (number standingLimit t) (λ standing. given (number smallLimit r) (λ row. cond (eqb standing 0) None (Some (held serial standing row)))))
+    given (number small-limit s) (λ serial. given (number standing-limit t) (λ standing. given (number small-limit r) (λ row. cond (eqb standing 0) None (Some (held serial standing row)))))
 
 entry-is : {w : List ℕ} {h : Held} → Entry w h → entry w ≡ Some h
 entry-is (parts {s} {t} {r} {serial = l} {standing = m} {row = n} f g some k) =
@@ -122,37 +122,37 @@ entry-is (parts {s} {t} {r} {serial = l} {standing = m} {row = n} f g some k) =
     ∙ ap (λ v. from-parts s (front 58 v) (behind 58 v)) one
     ∙ ap (λ v. from-parts s v (behind 58 (t ++ 58 ∷ r))) (front-digits t r (g .decimal))
     ∙ ap (λ v. from-parts s t v) (behind-digits t r (g .decimal))
-    ∙ ap (λ o. given o (λ i. given (number standingLimit t) (λ j. given (number smallLimit r) (λ q. cond (eqb j 0) None (Some (held i j q)))))) (number-from smallLimit s l f)
-    ∙ ap (λ o. given o (λ j. given (number smallLimit r) (λ q. cond (eqb j 0) None (Some (held l j q))))) (number-from standingLimit t m g)
-    ∙ ap (λ o. given o (λ q. cond (eqb m 0) None (Some (held l m q)))) (number-from smallLimit r n k)
+    ∙ ap (λ o. given o (λ i. given (number standing-limit t) (λ j. given (number small-limit r) (λ q. cond (eqb j 0) None (Some (held i j q)))))) (number-from small-limit s l f)
+    ∙ ap (λ o. given o (λ j. given (number small-limit r) (λ q. cond (eqb j 0) None (Some (held l j q))))) (number-from standing-limit t m g)
+    ∙ ap (λ o. given o (λ q. cond (eqb m 0) None (Some (held l m q)))) (number-from small-limit r n k)
     ∙ cond-false _ _ _ (ne-eqb m 0 (λ e. omega arith))
 
-held-are : {ws : List (List ℕ)} {hs : List Held} → Entries ws hs → heldIn ws ≡ hs
+held-are : {ws : List (List ℕ)} {hs : List Held} → Entries ws hs → held-in ws ≡ hs
 held-are no-entry = refl
-held-are (one-entry {w} {ws} {h} {hs} e es) = ap (λ o. holding o (heldIn ws)) (entry-is e) ∙ ap (λ l. h ∷ l) (held-are es)
+held-are (one-entry {w} {ws} {h} {hs} e es) = ap (λ o. holding o (held-in ws)) (entry-is e) ∙ ap (λ l. h ∷ l) (held-are es)
 
-all-are : {ws : List (List ℕ)} {hs : List Held} → Entries ws hs → allHeld ws ≡ true
+all-are : {ws : List (List ℕ)} {hs : List Held} → Entries ws hs → all-held ws ≡ true
 all-are no-entry = refl
-all-are (one-entry {w} {ws} e es) = ap (λ o. also o (allHeld ws)) (entry-is e) ∙ all-are es
+all-are (one-entry {w} {ws} e es) = ap (λ o. also o (all-held ws)) (entry-is e) ∙ all-are es
 
 entries-are : {ws : List (List ℕ)} {hs : List Held} → Ending ws hs → entries ws ≡ Ok hs
 entries-are nothing = refl
-entries-are (with-entries {w} {ws} es) = cond-true _ (Ok (heldIn (w ∷ ws))) (Err BadEntry) (all-are es) ∙ ap (λ l. Ok l) (held-are es)
+entries-are (with-entries {w} {ws} es) = cond-true _ (Ok (held-in (w ∷ ws))) (Err BadEntry) (all-are es) ∙ ap (λ l. Ok l) (held-are es)
 
 -- commands
 
-opening-is : {g : List ℕ} {ls bs es : List (List ℕ)} {gate : ℕ} {sheets : List (List ℕ)} {f : Floor} {hs : List Held} → Number gateLimit g gate → Sheets ls sheets → length sheets ≤ 2 → Base bs f → Ending es hs → opening (g ∷ (ls ++ (bs ++ es))) ≡ Ok (opens gate sheets f hs)
+opening-is : {g : List ℕ} {ls bs es : List (List ℕ)} {gate : ℕ} {sheets : List (List ℕ)} {f : Floor} {hs : List Held} → Number gate-limit g gate → Sheets ls sheets → length sheets ≤ 2 → Base bs f → Ending es hs → opening (g ∷ (ls ++ (bs ++ es))) ≡ Ok (opens gate sheets f hs)
 opening-is {ls} {bs} {es} {gate} {sheets} {f} h s two b e =
-    ap (λ r. on r (λ i is. on (layers is) (λ j js. on (floor js) (λ k ks. toldHeld (opens i j k) (entries ks))))) (first-is (ls ++ (bs ++ es)) h)
-    ∙ ap (λ r. on r (λ j js. on (floor js) (λ k ks. toldHeld (opens gate j k) (entries ks)))) (layers-are (bs ++ es) (base-bare b es) s two)
-    ∙ ap (λ r. on r (λ k ks. toldHeld (opens gate sheets k) (entries ks))) (floor-is b es)
-    ∙ ap (toldHeld (opens gate sheets f)) (entries-are e)
+    ap (λ r. on r (λ i is. on (layers is) (λ j js. on (floor js) (λ k ks. told-held (opens i j k) (entries ks))))) (first-is (ls ++ (bs ++ es)) h)
+    ∙ ap (λ r. on r (λ j js. on (floor js) (λ k ks. told-held (opens gate j k) (entries ks)))) (layers-are (bs ++ es) (base-bare b es) s two)
+    ∙ ap (λ r. on r (λ k ks. told-held (opens gate sheets k) (entries ks))) (floor-is b es)
+    ∙ ap (told-held (opens gate sheets f)) (entries-are e)
 
 pub complete : {ws : List (List ℕ)} {c : Said} → Line ws c → spoken ws ≡ command c
 complete (open-line h s two b e) = ap answered (opening-is h s two b e)
 complete (at-line h) = ap (λ r. answered (told turns r)) (one-is h)
-complete (principal-line f g h) = ap (λ r. answered (toldThree principal r)) (three-is f g h)
-complete (statement-line f g h) = ap (λ r. answered (toldThree statement r)) (three-is f g h)
-complete (file-line f g h) = ap (λ r. answered (toldThree files r)) (three-is f g h)
+complete (principal-line f g h) = ap (λ r. answered (told-three principal r)) (three-is f g h)
+complete (statement-line f g h) = ap (λ r. answered (told-three statement r)) (three-is f g h)
+complete (file-line f g h) = ap (λ r. answered (told-three files r)) (three-is f g h)
 complete (strike-line h) = ap (λ r. answered (told strikes r)) (one-is h)
 complete book-line = refl

@@ -13,7 +13,7 @@ use Rattle.std.proofs.shelf.Tests.{cond-both, eqb-true}
 use Rattle.job.specs.declared.keyword.Keyword.{Keyword}
 use Rattle.job.specs.declared.unreadable.Unreadable.{Unreadable}
 use Rattle.job.specs.declared.unreadable.Unreadable.the-variants.{UnknownCommand}
-use Rattle.job.specs.Commands.{Said, Heard, silent, unreadable, command, saying, answered, spokenBy, spoken, reading}
+use Rattle.job.specs.Commands.{Said, Heard, silent, unreadable, command, saying, answered, spoken-by, spoken, reading}
 use Rattle.job.specs.Grammar.{Line, Hushed, wordless, comment, Exactly}
 use Rattle.job.specs.Keywords.{keyword}
 use Rattle.job.specs.Words.{onto, split, filled, words}
@@ -35,7 +35,7 @@ answered-loud : (r : Result Said Unreadable) → answered r ≡ silent → ⊥
 answered-loud (Ok c) e = let z : _≡_ {A = ℕ} 0 1 = cc in omega arith
 answered-loud (Err e) i = let z : _≡_ {A = ℕ} 0 1 = cc in omega arith
 
-loud : (o : Option Keyword) (ws : List (List ℕ)) → spokenBy o ws ≡ silent → ⊥
+loud : (o : Option Keyword) (ws : List (List ℕ)) → spoken-by o ws ≡ silent → ⊥
 loud (Some k) ws e = answered-loud (saying k ws) e
 loud None ws e = let z : _≡_ {A = ℕ} 0 1 = cc in omega arith
 

@@ -15,11 +15,11 @@ use Rattle.std.specs.shelf.Text.{sameBytes}
 use Rattle.std.proofs.shelf.Equals.{sameBytes-decides}
 use Rattle.std.proofs.shelf.Tests.{cond-both, eqb-true, eqb-false}
 use Rattle.job.specs.declared.unreadable.Unreadable.{Unreadable}
-use Rattle.job.specs.Books.{Floor, ledger, card, Held, held, listing, listed, passing, pastOver, recalling, layer, below, layers, floor, given, entry, holding, heldIn, also, allHeld, someHeld, entries}
+use Rattle.job.specs.Books.{Floor, ledger, card, Held, held, listing, listed, passing, behind-over, recalling, layer, below, layers, floor, given, entry, holding, held-in, also, all-held, some-held, entries}
 use Rattle.job.specs.Grammar.{Serials, no-serial, serial, Sheets, bare, over, Base, a-ledger, a-card, Entry, parts, Entries, no-entry, one-entry, Ending, nothing, with-entries}
-use Rattle.job.specs.Limits.{smallLimit, recordLimit, standingLimit}
+use Rattle.job.specs.Limits.{small-limit, record-limit, standing-limit}
 use Rattle.job.specs.Numbers.{number, Number}
-use Rattle.job.specs.Operands.{Part, part, on, firstNumber}
+use Rattle.job.specs.Operands.{Part, part, on, leading-number}
 use Rattle.job.specs.Words.{front, behind}
 use Rattle.job.proofs.ReadNumbers.{First, first, no-first, first-view}
 use Rattle.job.proofs.Values.{number-means}
@@ -34,20 +34,20 @@ data Past : List (List ℕ) → List ℕ → Result (List (List ℕ)) Unreadable
   past : {ws after : List (List ℕ)} {ns : List ℕ} → Serials ws ns → Past (ws ++ codes "over" ∷ after) ns (Ok after)
   no-past : {ws : List (List ℕ)} {ns : List ℕ} {e : Unreadable} → Past ws ns (Err e)
 
-past-more : {w : List ℕ} {n : ℕ} {ws : List (List ℕ)} {ns : List ℕ} {r : Result (List (List ℕ)) Unreadable} → Number smallLimit w n → Past ws ns r → Past (w ∷ ws) (n ∷ ns) r
+past-more : {w : List ℕ} {n : ℕ} {ws : List (List ℕ)} {ns : List ℕ} {r : Result (List (List ℕ)) Unreadable} → Number small-limit w n → Past ws ns r → Past (w ∷ ws) (n ∷ ns) r
 past-more h (past s) = past (serial h s)
 past-more h no-past = no-past
 
-past-passing : (w : List ℕ) (o : Option ℕ) {ws : List (List ℕ)} {ns : List ℕ} {r : Result (List (List ℕ)) Unreadable} → number smallLimit w ≡ o → Past ws ns r → Past (w ∷ ws) (listing o ns) (passing o r)
-past-passing w (Some n) e p = past-more (number-means smallLimit w n e) p
+past-passing : (w : List ℕ) (o : Option ℕ) {ws : List (List ℕ)} {ns : List ℕ} {r : Result (List (List ℕ)) Unreadable} → number small-limit w ≡ o → Past ws ns r → Past (w ∷ ws) (listing o ns) (passing o r)
+past-passing w (Some n) e p = past-more (number-means small-limit w n e) p
 past-passing w None e p = no-past
 
-past-view : (ws : List (List ℕ)) → Past ws (listed ws) (pastOver ws)
+past-view : (ws : List (List ℕ)) → Past ws (listed ws) (behind-over ws)
 past-view [] = no-past
 past-view (w ∷ ws) =
-    cond-both (sameBytes w (codes "over")) (Ok ws) (passing (number smallLimit w) (pastOver ws)) (Past (w ∷ ws) (listed (w ∷ ws)))
+    cond-both (sameBytes w (codes "over")) (Ok ws) (passing (number small-limit w) (behind-over ws)) (Past (w ∷ ws) (listed (w ∷ ws)))
     (λ e. spelt (λ v. Past (v ∷ ws) (listed (v ∷ ws)) (Ok ws)) w (codes "over") e (past no-serial))
-    (λ e. past-passing w (number smallLimit w) refl (past-view ws))
+    (λ e. past-passing w (number small-limit w) refl (past-view ws))
 
 data Layer : List (List ℕ) → Result (Option (Part (List ℕ))) Unreadable → Type 0 where
   a-layer : {ws after : List (List ℕ)} {ns : List ℕ} → Serials ws ns → Layer (codes "recall" ∷ (ws ++ codes "over" ∷ after)) (Ok (Some (part ns after)))
@@ -61,8 +61,8 @@ layer-from no-past = bad-layer
 layer-view : (ws : List (List ℕ)) → Layer ws (layer ws)
 layer-view [] = no-layer
 layer-view (w ∷ ws) =
-    cond-both (sameBytes w (codes "recall")) (recalling (listed ws) (pastOver ws)) (Ok None) (Layer (w ∷ ws))
-    (λ e. spelt (λ v. Layer (v ∷ ws) (recalling (listed ws) (pastOver ws))) w (codes "recall") e (layer-from (past-view ws)))
+    cond-both (sameBytes w (codes "recall")) (recalling (listed ws) (behind-over ws)) (Ok None) (Layer (w ∷ ws))
+    (λ e. spelt (λ v. Layer (v ∷ ws) (recalling (listed ws) (behind-over ws))) w (codes "recall") e (layer-from (past-view ws)))
     (λ e. no-layer)
 
 pub data Layered : List (List ℕ) → Result (Part (List (List ℕ))) Unreadable → Type 0 where
@@ -96,7 +96,7 @@ pub data Based : List (List ℕ) → Result (Part Floor) Unreadable → Type 0 w
   based : {ws after : List (List ℕ)} {f : Floor} → Base ws f → Based (ws ++ after) (Ok (part f after))
   no-base : {ws : List (List ℕ)} {e : Unreadable} → Based ws (Err e)
 
-ledger-from : {ws : List (List ℕ)} {r : Result (Part ℕ) Unreadable} → First recordLimit ws r → Based (codes "ledger" ∷ ws) (on r (λ n ns. Ok (part (ledger n) ns)))
+ledger-from : {ws : List (List ℕ)} {r : Result (Part ℕ) Unreadable} → First record-limit ws r → Based (codes "ledger" ∷ ws) (on r (λ n ns. Ok (part (ledger n) ns)))
 ledger-from (first {w} {ws} h) = based {ws = codes "ledger" ∷ w ∷ []} {after = ws} (a-ledger h)
 ledger-from no-first = no-base
 
@@ -106,7 +106,7 @@ floor-view (w ∷ ws) =
     cond-both (sameBytes w (codes "card")) (Ok (part card ws)) _ (Based (w ∷ ws))
     (λ e. spelt (λ v. Based (v ∷ ws) (Ok (part card ws))) w (codes "card") e (based {ws = codes "card" ∷ []} {after = ws} a-card))
     (λ e. cond-both (sameBytes w (codes "ledger")) _ _ (Based (w ∷ ws))
-    (λ e. spelt (λ v. Based (v ∷ ws) (on (firstNumber recordLimit ws) (λ n ns. Ok (part (ledger n) ns)))) w (codes "ledger") e (ledger-from (first-view recordLimit ws)))
+    (λ e. spelt (λ v. Based (v ∷ ws) (on (leading-number record-limit ws) (λ n ns. Ok (part (ledger n) ns)))) w (codes "ledger") e (ledger-from (first-view record-limit ws)))
     (λ e. no-base))
 
 -- entries
@@ -132,7 +132,7 @@ given-some (Some n) f a h = it-is n refl h
 given-some None f a h = let z : _≡_ {A = ℕ} 0 1 = cc in absurd (omega arith)
 
 module _ (w : List ℕ) (h : Held) where
-  standing-means : (s t r : ℕ) → Number smallLimit (front 58 w) s → Number standingLimit (front 58 (behind 58 w)) t → Number smallLimit (behind 58 (behind 58 w)) r → cond (eqb t 0) None (Some (held s t r)) ≡ Some h → Entry w h
+  standing-means : (s t r : ℕ) → Number small-limit (front 58 w) s → Number standing-limit (front 58 (behind 58 w)) t → Number small-limit (behind 58 (behind 58 w)) r → cond (eqb t 0) None (Some (held s t r)) ≡ Some h → Entry w h
   standing-means s t r ns nt nr =
       let inner = cut-again 58 (behind 58 w) (nr .some) in
       let outer = cut-again 58 w (behind-some 58 (behind 58 w) (nr .some)) in
@@ -144,14 +144,14 @@ module _ (w : List ℕ) (h : Held) where
       let same : held s t r ≡ h = cc in
       subst (Entry w) same (subst (λ v. Entry v (held s t r)) whole (parts ns nt some nr)))
 
-  row-means : (s t : ℕ) → Number smallLimit (front 58 w) s → Number standingLimit (front 58 (behind 58 w)) t → Given (number smallLimit (behind 58 (behind 58 w))) (λ r. cond (eqb t 0) None (Some (held s t r))) h → Entry w h
-  row-means s t ns nt (it-is r e i) = standing-means s t r ns nt (number-means smallLimit (behind 58 (behind 58 w)) r e) i
+  row-means : (s t : ℕ) → Number small-limit (front 58 w) s → Number standing-limit (front 58 (behind 58 w)) t → Given (number small-limit (behind 58 (behind 58 w))) (λ r. cond (eqb t 0) None (Some (held s t r))) h → Entry w h
+  row-means s t ns nt (it-is r e i) = standing-means s t r ns nt (number-means small-limit (behind 58 (behind 58 w)) r e) i
 
-  second-means : (s : ℕ) → Number smallLimit (front 58 w) s → Given (number standingLimit (front 58 (behind 58 w))) (λ t. given (number smallLimit (behind 58 (behind 58 w))) (λ r. cond (eqb t 0) None (Some (held s t r)))) h → Entry w h
-  second-means s ns (it-is t e i) = row-means s t ns (number-means standingLimit (front 58 (behind 58 w)) t e) (given-some _ _ h i)
+  second-means : (s : ℕ) → Number small-limit (front 58 w) s → Given (number standing-limit (front 58 (behind 58 w))) (λ t. given (number small-limit (behind 58 (behind 58 w))) (λ r. cond (eqb t 0) None (Some (held s t r)))) h → Entry w h
+  second-means s ns (it-is t e i) = row-means s t ns (number-means standing-limit (front 58 (behind 58 w)) t e) (given-some _ _ h i)
 
-  serial-means : Given (number smallLimit (front 58 w)) (λ s. given (number standingLimit (front 58 (behind 58 w))) (λ t. given (number smallLimit (behind 58 (behind 58 w))) (λ r. cond (eqb t 0) None (Some (held s t r))))) h → Entry w h
-  serial-means (it-is s e i) = second-means s (number-means smallLimit (front 58 w) s e) (given-some _ _ h i)
+  serial-means : Given (number small-limit (front 58 w)) (λ s. given (number standing-limit (front 58 (behind 58 w))) (λ t. given (number small-limit (behind 58 (behind 58 w))) (λ r. cond (eqb t 0) None (Some (held s t r))))) h → Entry w h
+  serial-means (it-is s e i) = second-means s (number-means small-limit (front 58 w) s e) (given-some _ _ h i)
 
   entry-means : entry w ≡ Some h → Entry w h
   entry-means e = serial-means (given-some _ _ h e)
@@ -160,9 +160,9 @@ also-means : (w : List ℕ) (o : Option Held) (b : Bool) {ws : List (List ℕ)} 
 also-means w (Some h) b e more i = one-entry (entry-means w h e) (more i)
 also-means w None b e more i = let z : _≡_ {A = ℕ} 0 1 = cc in absurd (omega arith)
 
-held-means : (ws : List (List ℕ)) → allHeld ws ≡ true → Entries ws (heldIn ws)
+held-means : (ws : List (List ℕ)) → all-held ws ≡ true → Entries ws (held-in ws)
 held-means [] e = no-entry
-held-means (w ∷ ws) e = also-means w (entry w) (allHeld ws) refl (held-means ws) e
+held-means (w ∷ ws) e = also-means w (entry w) (all-held ws) refl (held-means ws) e
 
 pub data Ended : List (List ℕ) → Result (List Held) Unreadable → Type 0 where
   ended : {ws : List (List ℕ)} {hs : List Held} → Ending ws hs → Ended ws (Ok hs)
@@ -171,16 +171,16 @@ pub data Ended : List (List ℕ) → Result (List Held) Unreadable → Type 0 wh
 with-from : {w : List ℕ} {ws : List (List ℕ)} {hs : List Held} → Entries (w ∷ ws) hs → Ended (codes "with" ∷ w ∷ ws) (Ok hs)
 with-from (one-entry e es) = ended (with-entries (one-entry e es))
 
-some-view : (ws : List (List ℕ)) → Ended (codes "with" ∷ ws) (someHeld ws)
+some-view : (ws : List (List ℕ)) → Ended (codes "with" ∷ ws) (some-held ws)
 some-view [] = no-end
 some-view (w ∷ ws) =
-    cond-both (allHeld (w ∷ ws)) (Ok (heldIn (w ∷ ws))) _ (Ended (codes "with" ∷ w ∷ ws))
+    cond-both (all-held (w ∷ ws)) (Ok (held-in (w ∷ ws))) _ (Ended (codes "with" ∷ w ∷ ws))
     (λ e. with-from (held-means (w ∷ ws) e))
     (λ e. no-end)
 
 pub entries-view : (ws : List (List ℕ)) → Ended ws (entries ws)
 entries-view [] = ended nothing
 entries-view (w ∷ ws) =
-    cond-both (sameBytes w (codes "with")) (someHeld ws) _ (Ended (w ∷ ws))
-    (λ e. spelt (λ v. Ended (v ∷ ws) (someHeld ws)) w (codes "with") e (some-view ws))
+    cond-both (sameBytes w (codes "with")) (some-held ws) _ (Ended (w ∷ ws))
+    (λ e. spelt (λ v. Ended (v ∷ ws) (some-held ws)) w (codes "with") e (some-view ws))
     (λ e. no-end)

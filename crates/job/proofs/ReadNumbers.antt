@@ -8,7 +8,7 @@ use Rattle.std.specs.declared.result.Result.{Result}
 use Rattle.std.specs.declared.result.Result.the-variants.{Ok, Err}
 use Rattle.job.specs.declared.unreadable.Unreadable.{Unreadable}
 use Rattle.job.specs.Numbers.{number, Number}
-use Rattle.job.specs.Operands.{Part, part, Triple, triple, on, counted, firstNumber, closed, one, three}
+use Rattle.job.specs.Operands.{Part, part, Triple, triple, on, counted, leading-number, closed, one, three}
 use Rattle.job.proofs.Values.{number-means}
 
 pub data First (limit : ℕ) : List (List ℕ) → Result (Part ℕ) Unreadable → Type 0 where
@@ -19,7 +19,7 @@ first-counted : (limit : ℕ) (w : List ℕ) (ws : List (List ℕ)) (o : Option 
 first-counted limit w ws (Some n) e = first (number-means limit w n e)
 first-counted limit w ws None e = no-first
 
-pub first-view : (limit : ℕ) (ws : List (List ℕ)) → First limit ws (firstNumber limit ws)
+pub first-view : (limit : ℕ) (ws : List (List ℕ)) → First limit ws (leading-number limit ws)
 first-view limit [] = no-first
 first-view limit (w ∷ ws) = first-counted limit w ws (number limit w) refl
 
@@ -51,11 +51,11 @@ module _ {a b c : ℕ} where
   third f g (first {ws} h) = third-closed f g h ws
   third f g no-first = no-three
 
-  second : {x : List ℕ} {l : ℕ} {ws : List (List ℕ)} {r : Result (Part ℕ) Unreadable} → Number a x l → First b ws r → Three a b c (x ∷ ws) (on r (λ m ms. on (firstNumber c ms) (λ n ns. closed (triple l m n) ns)))
+  second : {x : List ℕ} {l : ℕ} {ws : List (List ℕ)} {r : Result (Part ℕ) Unreadable} → Number a x l → First b ws r → Three a b c (x ∷ ws) (on r (λ m ms. on (leading-number c ms) (λ n ns. closed (triple l m n) ns)))
   second f (first {ws} g) = third f g (first-view c ws)
   second f no-first = no-three
 
-  three-from : {ws : List (List ℕ)} {r : Result (Part ℕ) Unreadable} → First a ws r → Three a b c ws (on r (λ l ls. on (firstNumber b ls) (λ m ms. on (firstNumber c ms) (λ n ns. closed (triple l m n) ns))))
+  three-from : {ws : List (List ℕ)} {r : Result (Part ℕ) Unreadable} → First a ws r → Three a b c ws (on r (λ l ls. on (leading-number b ls) (λ m ms. on (leading-number c ms) (λ n ns. closed (triple l m n) ns))))
   three-from (first {ws} f) = second f (first-view b ws)
   three-from no-first = no-three
 

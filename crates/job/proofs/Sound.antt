@@ -16,10 +16,10 @@ use Rattle.job.specs.declared.keyword.Keyword.{Keyword}
 use Rattle.job.specs.declared.keyword.Keyword.the-variants.{Open, At, Principal, Statement, File, Strike, Book}
 use Rattle.job.specs.declared.unreadable.Unreadable.{Unreadable}
 use Rattle.job.specs.Books.{Floor, Held, layers, floor, entries}
-use Rattle.job.specs.Commands.{Said, opens, turns, principal, statement, files, strikes, lists, command, told, toldThree, toldHeld, answered, spokenBy, spoken}
+use Rattle.job.specs.Commands.{Said, opens, turns, principal, statement, files, strikes, lists, command, told, told-three, told-held, answered, spoken-by, spoken}
 use Rattle.job.specs.Grammar.{Sheets, Base, Line, open-line, at-line, principal-line, statement-line, file-line, strike-line, book-line}
 use Rattle.job.specs.Keywords.{keyword}
-use Rattle.job.specs.Limits.{gateLimit, codeLimit, smallLimit}
+use Rattle.job.specs.Limits.{gate-limit, code-limit, small-limit}
 use Rattle.job.specs.Numbers.{Number}
 use Rattle.job.specs.Operands.{Part, Triple, on, closed}
 use Rattle.job.proofs.ReadBooks.{spelt, Layered, the-layers, no-layers, layers-view, Based, based, no-base, floor-view, Ended, ended, no-end, entries-view}
@@ -29,23 +29,23 @@ data Says (w : List ℕ) (ws : List (List ℕ)) : Result Said Unreadable → Typ
   says : {c : Said} → Line (w ∷ ws) c → Says w ws (Ok c)
   mute : {e : Unreadable} → Says w ws (Err e)
 
-says-at : {ws : List (List ℕ)} {r : Result ℕ Unreadable} → One gateLimit ws r → Says (codes "at") ws (told turns r)
+says-at : {ws : List (List ℕ)} {r : Result ℕ Unreadable} → One gate-limit ws r → Says (codes "at") ws (told turns r)
 says-at (the-one h) = says (at-line h)
 says-at no-one = mute
 
-says-strike : {ws : List (List ℕ)} {r : Result ℕ Unreadable} → One smallLimit ws r → Says (codes "strike") ws (told strikes r)
+says-strike : {ws : List (List ℕ)} {r : Result ℕ Unreadable} → One small-limit ws r → Says (codes "strike") ws (told strikes r)
 says-strike (the-one h) = says (strike-line h)
 says-strike no-one = mute
 
-says-principal : {ws : List (List ℕ)} {r : Result Triple Unreadable} → Three codeLimit smallLimit smallLimit ws r → Says (codes "principal") ws (toldThree principal r)
+says-principal : {ws : List (List ℕ)} {r : Result Triple Unreadable} → Three code-limit small-limit small-limit ws r → Says (codes "principal") ws (told-three principal r)
 says-principal (the-three f g h) = says (principal-line f g h)
 says-principal no-three = mute
 
-says-statement : {ws : List (List ℕ)} {r : Result Triple Unreadable} → Three codeLimit smallLimit smallLimit ws r → Says (codes "statement") ws (toldThree statement r)
+says-statement : {ws : List (List ℕ)} {r : Result Triple Unreadable} → Three code-limit small-limit small-limit ws r → Says (codes "statement") ws (told-three statement r)
 says-statement (the-three f g h) = says (statement-line f g h)
 says-statement no-three = mute
 
-says-file : {ws : List (List ℕ)} {r : Result Triple Unreadable} → Three smallLimit codeLimit smallLimit ws r → Says (codes "file") ws (toldThree files r)
+says-file : {ws : List (List ℕ)} {r : Result Triple Unreadable} → Three small-limit code-limit small-limit ws r → Says (codes "file") ws (told-three files r)
 says-file (the-three f g h) = says (file-line f g h)
 says-file no-three = mute
 
@@ -53,20 +53,20 @@ says-book : (ws : List (List ℕ)) → Says (codes "book") ws (closed lists ws)
 says-book [] = says book-line
 says-book (w ∷ ws) = mute
 
-module _ {g : List ℕ} {gate : ℕ} (number-of : Number gateLimit g gate) where
-  opens-with : {ls bs ws : List (List ℕ)} {sheets : List (List ℕ)} {f : Floor} {r : Result (List Held) Unreadable} → Sheets ls sheets → length sheets ≤ 2 → Base bs f → Ended ws r → Says (codes "open") (g ∷ (ls ++ (bs ++ ws))) (toldHeld (opens gate sheets f) r)
+module _ {g : List ℕ} {gate : ℕ} (number-of : Number gate-limit g gate) where
+  opens-with : {ls bs ws : List (List ℕ)} {sheets : List (List ℕ)} {f : Floor} {r : Result (List Held) Unreadable} → Sheets ls sheets → length sheets ≤ 2 → Base bs f → Ended ws r → Says (codes "open") (g ∷ (ls ++ (bs ++ ws))) (told-held (opens gate sheets f) r)
   opens-with s two b (ended e) = says (open-line number-of s two b e)
   opens-with s two b no-end = mute
 
-  opens-over : {ls ws : List (List ℕ)} {sheets : List (List ℕ)} {r : Result (Part Floor) Unreadable} → Sheets ls sheets → length sheets ≤ 2 → Based ws r → Says (codes "open") (g ∷ (ls ++ ws)) (on r (λ base fs. toldHeld (opens gate sheets base) (entries fs)))
+  opens-over : {ls ws : List (List ℕ)} {sheets : List (List ℕ)} {r : Result (Part Floor) Unreadable} → Sheets ls sheets → length sheets ≤ 2 → Based ws r → Says (codes "open") (g ∷ (ls ++ ws)) (on r (λ base fs. told-held (opens gate sheets base) (entries fs)))
   opens-over s two (based {after} b) = opens-with s two b (entries-view after)
   opens-over s two no-base = mute
 
-  opens-gate : {ws : List (List ℕ)} {r : Result (Part (List (List ℕ))) Unreadable} → Layered ws r → Says (codes "open") (g ∷ ws) (on r (λ sheets ls. on (floor ls) (λ base fs. toldHeld (opens gate sheets base) (entries fs))))
+  opens-gate : {ws : List (List ℕ)} {r : Result (Part (List (List ℕ))) Unreadable} → Layered ws r → Says (codes "open") (g ∷ ws) (on r (λ sheets ls. on (floor ls) (λ base fs. told-held (opens gate sheets base) (entries fs))))
   opens-gate (the-layers {after} s two) = opens-over s two (floor-view after)
   opens-gate no-layers = mute
 
-says-open : {ws : List (List ℕ)} {r : Result (Part ℕ) Unreadable} → First gateLimit ws r → Says (codes "open") ws (on r (λ gate gs. on (layers gs) (λ sheets ls. on (floor ls) (λ base fs. toldHeld (opens gate sheets base) (entries fs)))))
+says-open : {ws : List (List ℕ)} {r : Result (Part ℕ) Unreadable} → First gate-limit ws r → Says (codes "open") ws (on r (λ gate gs. on (layers gs) (λ sheets ls. on (floor ls) (λ base fs. told-held (opens gate sheets base) (entries fs)))))
 says-open (first {ws} h) = opens-gate h (layers-view ws)
 says-open no-first = mute
 
@@ -98,13 +98,13 @@ answered-says : {w : List ℕ} {ws : List (List ℕ)} {r : Result Said Unreadabl
 answered-says {w} {ws} c (says {c = d} l) e = let same : d ≡ c = cc in subst (Line (w ∷ ws)) same l
 answered-says c mute e = let z : _≡_ {A = ℕ} 0 1 = cc in absurd (omega arith)
 
-spoken-says : {w : List ℕ} {o : Option Keyword} (ws : List (List ℕ)) (c : Said) → Spelled w o → spokenBy o ws ≡ command c → Line (w ∷ ws) c
-spoken-says ws c spells-open e = answered-says c (says-open (first-view gateLimit ws)) e
-spoken-says ws c spells-at e = answered-says c (says-at (one-view gateLimit ws)) e
-spoken-says ws c spells-principal e = answered-says c (says-principal (three-view codeLimit smallLimit smallLimit ws)) e
-spoken-says ws c spells-statement e = answered-says c (says-statement (three-view codeLimit smallLimit smallLimit ws)) e
-spoken-says ws c spells-file e = answered-says c (says-file (three-view smallLimit codeLimit smallLimit ws)) e
-spoken-says ws c spells-strike e = answered-says c (says-strike (one-view smallLimit ws)) e
+spoken-says : {w : List ℕ} {o : Option Keyword} (ws : List (List ℕ)) (c : Said) → Spelled w o → spoken-by o ws ≡ command c → Line (w ∷ ws) c
+spoken-says ws c spells-open e = answered-says c (says-open (first-view gate-limit ws)) e
+spoken-says ws c spells-at e = answered-says c (says-at (one-view gate-limit ws)) e
+spoken-says ws c spells-principal e = answered-says c (says-principal (three-view code-limit small-limit small-limit ws)) e
+spoken-says ws c spells-statement e = answered-says c (says-statement (three-view code-limit small-limit small-limit ws)) e
+spoken-says ws c spells-file e = answered-says c (says-file (three-view small-limit code-limit small-limit ws)) e
+spoken-says ws c spells-strike e = answered-says c (says-strike (one-view small-limit ws)) e
 spoken-says ws c spells-book e = answered-says c (says-book ws) e
 spoken-says ws c spells-none e = let z : _≡_ {A = ℕ} 0 1 = cc in absurd (omega arith)
 

@@ -11,7 +11,7 @@ use Rattle.std.specs.declared.option.Option.the-variants.{Some, None}
 use Rattle.std.specs.shelf.Lists.{All}
 use Rattle.std.proofs.shelf.Lists.{at-drop-more, at-drop-all}
 use Rattle.std.proofs.shelf.Tests.{cond-both, cond-true, cond-false, leb-true, leb-false, lt-leb, le-leb, and-parts, and-from}
-use Rattle.job.specs.Numbers.{digit, digits, valueAfter, value, written, number, Number}
+use Rattle.job.specs.Numbers.{digit, digits, value-after, value, written, number, Number}
 
 -- reads on after digits of value n, and ends as soon as the value passes the limit
 abbrev pub spell : ℕ → ℕ → List ℕ → Option ℕ
@@ -20,24 +20,24 @@ spell limit n (c ∷ cs) = cond (digit c) (cond (leb (n * 10 + (c - 48)) limit) 
 
 -- what the digits ds after a value n are read as
 abbrev told : ℕ → ℕ → List ℕ → Option ℕ
-told limit n cs = cond (digits cs && leb (valueAfter n cs) limit) (Some (valueAfter n cs)) None
+told limit n cs = cond (digits cs && leb (value-after n cs) limit) (Some (value-after n cs)) None
 
 -- more digits do not make a value smaller
-pub value-grows : (n : ℕ) (cs : List ℕ) → n ≤ valueAfter n cs
+pub value-grows : (n : ℕ) (cs : List ℕ) → n ≤ value-after n cs
 value-grows n [] = omega arith
 value-grows n (c ∷ cs) = omega (arith, value-grows (n * 10 + (c - 48)) cs)
 
 above : (limit n : ℕ) (cs : List ℕ) → limit < n → told limit n cs ≡ None
 above limit n cs h =
-    let past : leb (valueAfter n cs) limit ≡ false = lt-leb _ _ (omega (arith, value-grows n cs)) in
-    elim (digits cs) as (λ t. cond (t && leb (valueAfter n cs) limit) (Some (valueAfter n cs)) None ≡ None)
-    [ true ↦ ap (λ t. cond t (Some (valueAfter n cs)) None) past | false ↦ refl ]
+    let past : leb (value-after n cs) limit ≡ false = lt-leb _ _ (omega (arith, value-grows n cs)) in
+    elim (digits cs) as (λ t. cond (t && leb (value-after n cs) limit) (Some (value-after n cs)) None ≡ None)
+    [ true ↦ ap (λ t. cond t (Some (value-after n cs)) None) past | false ↦ refl ]
 
 pub spell-told : (limit n : ℕ) (cs : List ℕ) → n ≤ limit → spell limit n cs ≡ told limit n cs
 spell-told limit n [] h = sym (cond-true (leb n limit) (Some n) None (le-leb n limit h))
 spell-told limit n (c ∷ cs) h =
     let m : ℕ = n * 10 + (c - 48) in
-    elim (digit c) as (λ t. cond t (cond (leb m limit) (spell limit m cs) None) None ≡ cond ((t && digits cs) && leb (valueAfter m cs) limit) (Some (valueAfter m cs)) None) [
+    elim (digit c) as (λ t. cond t (cond (leb m limit) (spell limit m cs) None) None ≡ cond ((t && digits cs) && leb (value-after m cs) limit) (Some (value-after m cs)) None) [
       | true ↦ cond-both (leb m limit) (spell limit m cs) None (λ o. o ≡ told limit m cs) (λ e. spell-told limit m cs (leb-true _ _ e)) (λ e. sym (above limit m cs (leb-false _ _ e)))
       | false ↦ refl
     ]

@@ -23,10 +23,10 @@ use Rattle.job.specs.declared.keyword.Keyword.{Keyword}
 use Rattle.job.specs.declared.keyword.Keyword.the-variants.{Open, At, Principal, Statement, File, Strike, Book}
 use Rattle.job.specs.declared.unreadable.Unreadable.{Unreadable}
 use Rattle.job.specs.declared.unreadable.Unreadable.the-variants.{UnknownCommand}
-use Rattle.job.specs.Books.{Floor, Held, sheets, floorOf, heldIn, layers, floor, entries}
+use Rattle.job.specs.Books.{Floor, Held, sheets, floor-of, held-in, layers, floor, entries}
 use Rattle.job.specs.Keywords.{keyword}
-use Rattle.job.specs.Limits.{gateLimit, codeLimit, smallLimit}
-use Rattle.job.specs.Operands.{Triple, triple, on, firstNumber, closed, one, three}
+use Rattle.job.specs.Limits.{gate-limit, code-limit, small-limit}
+use Rattle.job.specs.Operands.{Triple, triple, on, leading-number, closed, one, three}
 use Rattle.job.specs.Words.{words}
 
 pub data Said : Type 0 where
@@ -47,37 +47,37 @@ abbrev pub told : (ℕ → Said) → Result ℕ Unreadable → Result Said Unrea
 told f (Ok n) = Ok (f n)
 told f (Err e) = Err e
 
-abbrev pub toldThree : (ℕ → ℕ → ℕ → Said) → Result Triple Unreadable → Result Said Unreadable
-toldThree f (Ok (triple x y z)) = Ok (f x y z)
-toldThree f (Err e) = Err e
+abbrev pub told-three : (ℕ → ℕ → ℕ → Said) → Result Triple Unreadable → Result Said Unreadable
+told-three f (Ok (triple x y z)) = Ok (f x y z)
+told-three f (Err e) = Err e
 
-abbrev pub toldHeld : (List Held → Said) → Result (List Held) Unreadable → Result Said Unreadable
-toldHeld f (Ok hs) = Ok (f hs)
-toldHeld f (Err e) = Err e
+abbrev pub told-held : (List Held → Said) → Result (List Held) Unreadable → Result Said Unreadable
+told-held f (Ok hs) = Ok (f hs)
+told-held f (Err e) = Err e
 
 abbrev pub opening : List (List ℕ) → Result Said Unreadable
-opening ws = on (firstNumber gateLimit ws) (λ gate gs. on (layers gs) (λ over ls. on (floor ls) (λ base fs. toldHeld (opens gate over base) (entries fs))))
+opening ws = on (leading-number gate-limit ws) (λ gate gs. on (layers gs) (λ over ls. on (floor ls) (λ base fs. told-held (opens gate over base) (entries fs))))
 
 abbrev pub saying : Keyword → List (List ℕ) → Result Said Unreadable
 saying Open ws = opening ws
-saying At ws = told turns (one gateLimit ws)
-saying Principal ws = toldThree principal (three codeLimit smallLimit smallLimit ws)
-saying Statement ws = toldThree statement (three codeLimit smallLimit smallLimit ws)
-saying File ws = toldThree files (three smallLimit codeLimit smallLimit ws)
-saying Strike ws = told strikes (one smallLimit ws)
+saying At ws = told turns (one gate-limit ws)
+saying Principal ws = told-three principal (three code-limit small-limit small-limit ws)
+saying Statement ws = told-three statement (three code-limit small-limit small-limit ws)
+saying File ws = told-three files (three small-limit code-limit small-limit ws)
+saying Strike ws = told strikes (one small-limit ws)
 saying Book ws = closed lists ws
 
 abbrev pub answered : Result Said Unreadable → Heard
 answered (Ok c) = command c
 answered (Err e) = unreadable e
 
-abbrev pub spokenBy : Option Keyword → List (List ℕ) → Heard
-spokenBy (Some k) ws = answered (saying k ws)
-spokenBy None ws = unreadable UnknownCommand
+abbrev pub spoken-by : Option Keyword → List (List ℕ) → Heard
+spoken-by (Some k) ws = answered (saying k ws)
+spoken-by None ws = unreadable UnknownCommand
 
 abbrev pub spoken : List (List ℕ) → Heard
 spoken [] = silent
-spoken (w ∷ ws) = spokenBy (keyword w) ws
+spoken (w ∷ ws) = spoken-by (keyword w) ws
 
 -- a line whose first byte is '#' says nothing
 abbrev pub reading : List ℕ → Heard
@@ -91,7 +91,7 @@ said (commands.Statement f x y) = statement f x y
 said (commands.File s t r) = files s t r
 said (commands.Strike s) = strikes s
 said commands.Book = lists
-said (commands.Open o) = opens (o .gate) (sheets (o .layers)) (floorOf (o .ground)) (heldIn (words (now (o .entries))))
+said (commands.Open o) = opens (o .gate) (sheets (o .layers)) (floor-of (o .ground)) (held-in (words (now (o .entries))))
 
 abbrev pub heard : Reading → Heard
 heard readings.Silent = silent

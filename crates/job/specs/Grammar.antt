@@ -16,25 +16,25 @@ use lib.Chars.{codes}
 use lib.ListN.{length}
 use Rattle.job.specs.Books.{Floor, ledger, card, Held, held}
 use Rattle.job.specs.Commands.{Said, opens, turns, principal, statement, files, strikes, lists, Heard, silent, command}
-use Rattle.job.specs.Limits.{gateLimit, codeLimit, smallLimit, recordLimit, standingLimit}
+use Rattle.job.specs.Limits.{gate-limit, code-limit, small-limit, record-limit, standing-limit}
 use Rattle.job.specs.Numbers.{Number}
 use Rattle.job.specs.Words.{words}
 
 pub data Serials : List (List ℕ) → List ℕ → Type 0 where
   no-serial : Serials [] []
-  serial : {w : List ℕ} {ws : List (List ℕ)} {n : ℕ} {ns : List ℕ} → Number smallLimit w n → Serials ws ns → Serials (w ∷ ws) (n ∷ ns)
+  serial : {w : List ℕ} {ws : List (List ℕ)} {n : ℕ} {ns : List ℕ} → Number small-limit w n → Serials ws ns → Serials (w ∷ ws) (n ∷ ns)
 
 pub data Sheets : List (List ℕ) → List (List ℕ) → Type 0 where
   bare : Sheets [] []
   over : {ws below : List (List ℕ)} {ns : List ℕ} {ls : List (List ℕ)} → Serials ws ns → Sheets below ls → Sheets (codes "recall" ∷ (ws ++ codes "over" ∷ below)) (ns ∷ ls)
 
 pub data Base : List (List ℕ) → Floor → Type 0 where
-  a-ledger : {w : List ℕ} {n : ℕ} → Number recordLimit w n → Base (codes "ledger" ∷ w ∷ []) (ledger n)
+  a-ledger : {w : List ℕ} {n : ℕ} → Number record-limit w n → Base (codes "ledger" ∷ w ∷ []) (ledger n)
   a-card : Base (codes "card" ∷ []) card
 
 -- 58 is the colon
 pub data Entry : List ℕ → Held → Type 0 where
-  parts : {s t r : List ℕ} {serial standing row : ℕ} → Number smallLimit s serial → Number standingLimit t standing → 1 ≤ standing → Number smallLimit r row → Entry (s ++ 58 ∷ (t ++ 58 ∷ r)) (held serial standing row)
+  parts : {s t r : List ℕ} {serial standing row : ℕ} → Number small-limit s serial → Number standing-limit t standing → 1 ≤ standing → Number small-limit r row → Entry (s ++ 58 ∷ (t ++ 58 ∷ r)) (held serial standing row)
 
 pub data Entries : List (List ℕ) → List Held → Type 0 where
   no-entry : Entries [] []
@@ -46,13 +46,13 @@ pub data Ending : List (List ℕ) → List Held → Type 0 where
 
 pub data Line : List (List ℕ) → Said → Type 0 where
   open-line : {g : List ℕ} {ls bs es : List (List ℕ)} {gate : ℕ} {sheets : List (List ℕ)} {floor : Floor} {hs : List Held} →
-      Number gateLimit g gate → Sheets ls sheets → length sheets ≤ 2 → Base bs floor → Ending es hs →
+      Number gate-limit g gate → Sheets ls sheets → length sheets ≤ 2 → Base bs floor → Ending es hs →
       Line (codes "open" ∷ g ∷ (ls ++ (bs ++ es))) (opens gate sheets floor hs)
-  at-line : {g : List ℕ} {gate : ℕ} → Number gateLimit g gate → Line (codes "at" ∷ g ∷ []) (turns gate)
-  principal-line : {f x y : List ℕ} {form left right : ℕ} → Number codeLimit f form → Number smallLimit x left → Number smallLimit y right → Line (codes "principal" ∷ f ∷ x ∷ y ∷ []) (principal form left right)
-  statement-line : {f x y : List ℕ} {form left right : ℕ} → Number codeLimit f form → Number smallLimit x left → Number smallLimit y right → Line (codes "statement" ∷ f ∷ x ∷ y ∷ []) (statement form left right)
-  file-line : {s t r : List ℕ} {serial standing row : ℕ} → Number smallLimit s serial → Number codeLimit t standing → Number smallLimit r row → Line (codes "file" ∷ s ∷ t ∷ r ∷ []) (files serial standing row)
-  strike-line : {s : List ℕ} {serial : ℕ} → Number smallLimit s serial → Line (codes "strike" ∷ s ∷ []) (strikes serial)
+  at-line : {g : List ℕ} {gate : ℕ} → Number gate-limit g gate → Line (codes "at" ∷ g ∷ []) (turns gate)
+  principal-line : {f x y : List ℕ} {form left right : ℕ} → Number code-limit f form → Number small-limit x left → Number small-limit y right → Line (codes "principal" ∷ f ∷ x ∷ y ∷ []) (principal form left right)
+  statement-line : {f x y : List ℕ} {form left right : ℕ} → Number code-limit f form → Number small-limit x left → Number small-limit y right → Line (codes "statement" ∷ f ∷ x ∷ y ∷ []) (statement form left right)
+  file-line : {s t r : List ℕ} {serial standing row : ℕ} → Number small-limit s serial → Number code-limit t standing → Number small-limit r row → Line (codes "file" ∷ s ∷ t ∷ r ∷ []) (files serial standing row)
+  strike-line : {s : List ℕ} {serial : ℕ} → Number small-limit s serial → Line (codes "strike" ∷ s ∷ []) (strikes serial)
   book-line : Line (codes "book" ∷ []) lists
 
 pub data Hushed : List ℕ → Type 0 where

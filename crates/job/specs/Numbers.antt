@@ -2,7 +2,7 @@
 --
 -- digit c            c is one of the bytes '0' to '9'
 -- digits w           each byte of w is a digit
--- valueAfter n w     the value of the digits w that follow digits of value n
+-- value-after n w     the value of the digits w that follow digits of value n
 -- value w            the decimal value of the digits w
 -- number limit w     the value of w, if w is a number of at most limit
 -- Number limit w n   w is a number, n is its value, and n is at most limit
@@ -23,12 +23,12 @@ abbrev pub digits : List ℕ → Bool
 digits [] = true
 digits (c ∷ cs) = digit c && digits cs
 
-abbrev pub valueAfter : ℕ → List ℕ → ℕ
-valueAfter n [] = n
-valueAfter n (c ∷ cs) = valueAfter (n * 10 + (c - 48)) cs
+abbrev pub value-after : ℕ → List ℕ → ℕ
+value-after n [] = n
+value-after n (c ∷ cs) = value-after (n * 10 + (c - 48)) cs
 
 abbrev pub value : List ℕ → ℕ
-value w = valueAfter 0 w
+value w = value-after 0 w
 
 abbrev pub written : List ℕ → Bool
 written [] = false

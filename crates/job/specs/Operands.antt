@@ -2,7 +2,7 @@
 --
 -- Part A                 what was read, and the words behind it
 -- on r f                 goes on with what was read, or keeps the reason
--- firstNumber limit ws   the number that the first word is
+-- leading-number limit ws   the number that the first word is
 -- closed a ws            a, if no word is left
 -- one limit ws           the number that ws is
 -- three a b c ws         the three numbers that ws are, each within its limit
@@ -27,19 +27,19 @@ abbrev pub counted : Option ℕ → List (List ℕ) → Result (Part ℕ) Unread
 counted (Some n) ws = Ok (part n ws)
 counted None ws = Err BadNumber
 
-abbrev pub firstNumber : ℕ → List (List ℕ) → Result (Part ℕ) Unreadable
-firstNumber limit [] = Err MissingWord
-firstNumber limit (w ∷ ws) = counted (number limit w) ws
+abbrev pub leading-number : ℕ → List (List ℕ) → Result (Part ℕ) Unreadable
+leading-number limit [] = Err MissingWord
+leading-number limit (w ∷ ws) = counted (number limit w) ws
 
 abbrev pub closed : {A : Type 0} → A → List (List ℕ) → Result A Unreadable
 closed a [] = Ok a
 closed a (w ∷ ws) = Err ExtraWord
 
 abbrev pub one : ℕ → List (List ℕ) → Result ℕ Unreadable
-one limit ws = on (firstNumber limit ws) closed
+one limit ws = on (leading-number limit ws) closed
 
 pub data Triple : Type 0 where
   triple : ℕ → ℕ → ℕ → Triple
 
 abbrev pub three : ℕ → ℕ → ℕ → List (List ℕ) → Result Triple Unreadable
-three a b c ws = on (firstNumber a ws) (λ x xs. on (firstNumber b xs) (λ y ys. on (firstNumber c ys) (λ z zs. closed (triple x y z) zs)))
+three a b c ws = on (leading-number a ws) (λ x xs. on (leading-number b xs) (λ y ys. on (leading-number c ys) (λ z zs. closed (triple x y z) zs)))

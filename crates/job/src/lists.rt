@@ -4,7 +4,7 @@ ghost use mathlib.Core.List.{[], _∷_};
 ghost use Prim.Native.Nat.{_≤_};
 ghost use Rattle.std.specs.Options.{Cases};
 ghost use Rattle.std.specs.declared.option.Option.the-variants.{Some, None};
-ghost use Rattle.job.specs.Books.{listed, heldIn, held, entry};
+ghost use Rattle.job.specs.Books.{listed, held-in, held, entry};
 ghost use Rattle.job.specs.Words.{words};
 use crate::limits::SMALL;
 use crate::limits::STANDING;
@@ -61,7 +61,7 @@ pub(crate) fn read_entry(text: &[u8]) -> Option<Holding>
 
 // The first entry of the text and what follows it, or nothing where the text begins with no entry.
 pub fn next_entry(text: &[u8]) -> Option<(Holding, &[u8])>
-    ensures answer { λ r. ⌜ Cases r (heldIn (words (now (text .entry))) ≡ []) (λ p. heldIn (words (now (text .entry))) ≡ held (p .0 .serial) (p .0 .standing) (p .0 .row) ∷ heldIn (words (now (p .1)))) ⌝ }
+    ensures answer { λ r. ⌜ Cases r (held-in (words (now (text .entry))) ≡ []) (λ p. held-in (words (now (text .entry))) ≡ held (p .0 .serial) (p .0 .standing) (p .0 .row) ∷ held-in (words (now (p .1)))) ⌝ }
     ensures standing { λ r. ⌜ Cases r (Unit {0}) (λ p. (1 ≤ p .0 .standing) × (p .0 .standing ≤ 2)) ⌝ }
 {
     match next_word(text) {

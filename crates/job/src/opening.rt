@@ -4,7 +4,7 @@ ghost use mathlib.Core.Bool.{true, false};
 ghost use Rattle.std.specs.Results.{Cases};
 ghost use Rattle.std.specs.declared.option.Option.the-variants.{None};
 ghost use Rattle.std.specs.declared.result.Result.the-variants.{Ok, Err};
-ghost use Rattle.job.specs.Books.{listed, pastOver, recalling, layer, layers, floor, allHeld, heldIn, entries, sheets, floorOf};
+ghost use Rattle.job.specs.Books.{listed, behind-over, recalling, layer, layers, floor, all-held, held-in, entries, sheets, floor-of};
 ghost use Rattle.job.specs.Commands.{answered, heard, opening};
 ghost use Rattle.job.specs.Operands.{part};
 ghost use Rattle.job.specs.Words.{rest, words};
@@ -27,7 +27,7 @@ use crate::words::word_of;
 
 // What follows the serials of a layer and the word `over` behind them.
 fn past_over(text: &[u8]) -> Result<&[u8], Unreadable>
-    ensures { λ r. ⌜ Cases r (λ after. pastOver (words (now (text .entry))) ≡ Ok (words (now after))) (λ e. pastOver (words (now (text .entry))) ≡ Err e) ⌝ }
+    ensures { λ r. ⌜ Cases r (λ after. behind-over (words (now (text .entry))) ≡ Ok (words (now after))) (λ e. behind-over (words (now (text .entry))) ≡ Err e) ⌝ }
 {
     let mut rest = text;
     while let Some((word, after)) = next_word(rest) {
@@ -45,7 +45,7 @@ fn past_over(text: &[u8]) -> Result<&[u8], Unreadable>
 // Whether the text begins with a layer.
 fn is_layer(text: &[u8]) -> bool
     ensures no { λ r. ⌜ (r ≡ false → layer (words (now (text .entry))) ≡ Ok None) ⌝ }
-    ensures yes { λ r. ⌜ (r ≡ true → layer (words (now (text .entry))) ≡ recalling (listed (words (rest (now (text .entry))))) (pastOver (words (rest (now (text .entry)))))) ⌝ }
+    ensures yes { λ r. ⌜ (r ≡ true → layer (words (now (text .entry))) ≡ recalling (listed (words (rest (now (text .entry))))) (behind-over (words (rest (now (text .entry)))))) ⌝ }
 {
     let word = word_of(text);
     if word.is_empty() {
@@ -79,7 +79,7 @@ fn read_layers(text: &[u8]) -> Result<(Layers<'_>, &[u8]), Unreadable>
 
 // The lowest book, and what follows it.
 fn read_ground(rest: &[u8]) -> Result<(Ground, &[u8]), Unreadable>
-    ensures { λ r. ⌜ Cases r (λ p. floor (words (now (rest .entry))) ≡ Ok (part (floorOf (p .0)) (words (now (p .1))))) (λ e. floor (words (now (rest .entry))) ≡ Err e) ⌝ }
+    ensures { λ r. ⌜ Cases r (λ p. floor (words (now (rest .entry))) ≡ Ok (part (floor-of (p .0)) (words (now (p .1))))) (λ e. floor (words (now (rest .entry))) ≡ Err e) ⌝ }
 {
     let Some((word, after)) = next_word(rest) else {
         return Err(Unreadable::MissingWord);
@@ -98,7 +98,7 @@ fn read_ground(rest: &[u8]) -> Result<(Ground, &[u8]), Unreadable>
 
 // Whether every word of the text is an entry.
 fn all_entries(text: &[u8]) -> bool
-    ensures { λ r. ⌜ r ≡ allHeld (words (now (text .entry))) ⌝ }
+    ensures { λ r. ⌜ r ≡ all-held (words (now (text .entry))) ⌝ }
 {
     let mut rest = text;
     while let Some((word, after)) = next_word(rest) {
@@ -112,7 +112,7 @@ fn all_entries(text: &[u8]) -> bool
 
 // The text of the entries behind `with`, a text without words where nothing is left.
 fn read_entries(rest: &[u8]) -> Result<&[u8], Unreadable>
-    ensures { λ r. ⌜ Cases r (λ text. entries (words (now (rest .entry))) ≡ Ok (heldIn (words (now text)))) (λ e. entries (words (now (rest .entry))) ≡ Err e) ⌝ }
+    ensures { λ r. ⌜ Cases r (λ text. entries (words (now (rest .entry))) ≡ Ok (held-in (words (now text)))) (λ e. entries (words (now (rest .entry))) ≡ Err e) ⌝ }
 {
     let Some((word, text)) = next_word(rest) else {
         return Ok(rest);

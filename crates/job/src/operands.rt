@@ -4,7 +4,7 @@ ghost use Prim.Native.Nat.{_≤_};
 ghost use Rattle.std.specs.Results.{Cases};
 ghost use Rattle.std.specs.declared.result.Result.the-variants.{Ok, Err};
 ghost use Rattle.job.specs.Words.{rest, words};
-ghost use Rattle.job.specs.Operands.{firstNumber, closed, one, three, part, triple};
+ghost use Rattle.job.specs.Operands.{leading-number, closed, one, three, part, triple};
 use crate::numbers::number;
 use crate::unreadable::Unreadable;
 use crate::words::rest_of;
@@ -12,7 +12,7 @@ use crate::words::word_of;
 
 // The number that the first word is.
 pub(crate) fn first_number(text: &[u8], limit: u32) -> Result<u32, Unreadable>
-    ensures answer { λ r. ⌜ Cases r (λ n. firstNumber limit (words (now (text .entry))) ≡ Ok (part n (words (rest (now (text .entry)))))) (λ e. firstNumber limit (words (now (text .entry))) ≡ Err e) ⌝ }
+    ensures answer { λ r. ⌜ Cases r (λ n. leading-number limit (words (now (text .entry))) ≡ Ok (part n (words (rest (now (text .entry)))))) (λ e. leading-number limit (words (now (text .entry))) ≡ Err e) ⌝ }
     ensures within { λ r. ⌜ Cases r (λ n. n ≤ limit) (λ _. Unit {0}) ⌝ }
 {
     let word = word_of(text);

@@ -1,9 +1,9 @@
 // Reads a line as a command.
 ghost use mathlib.Core.Path.{_≡_};
-ghost use Rattle.job.specs.Commands.{answered, told, toldThree, turns, principal, statement, files, strikes, lists, spokenBy, reading, heard};
+ghost use Rattle.job.specs.Commands.{answered, told, told-three, turns, principal, statement, files, strikes, lists, spoken-by, reading, heard};
 ghost use Rattle.job.specs.Grammar.{Exactly};
 ghost use Rattle.job.specs.Keywords.{keyword};
-ghost use Rattle.job.specs.Limits.{gateLimit, codeLimit, smallLimit};
+ghost use Rattle.job.specs.Limits.{gate-limit, code-limit, small-limit};
 ghost use Rattle.job.specs.Operands.{closed, one, three};
 ghost use Rattle.job.specs.Words.{words};
 use crate::command::Command;
@@ -22,7 +22,7 @@ use crate::words::word_of;
 
 // The command `at` with the gate number behind it.
 fn read_at(rest: &[u8]) -> Reading<'_>
-    ensures { λ r. ⌜ heard r ≡ answered (told turns (one gateLimit (words (now (rest .entry))))) ⌝ }
+    ensures { λ r. ⌜ heard r ≡ answered (told turns (one gate-limit (words (now (rest .entry))))) ⌝ }
 {
     match one_number(rest, GATE) {
         Err(why) => Reading::Unreadable(why),
@@ -32,7 +32,7 @@ fn read_at(rest: &[u8]) -> Reading<'_>
 
 // The command `principal` with the form and the operands behind it.
 fn read_principal(rest: &[u8]) -> Reading<'_>
-    ensures { λ r. ⌜ heard r ≡ answered (toldThree principal (three codeLimit smallLimit smallLimit (words (now (rest .entry))))) ⌝ }
+    ensures { λ r. ⌜ heard r ≡ answered (told-three principal (three code-limit small-limit small-limit (words (now (rest .entry))))) ⌝ }
 {
     match three_numbers(rest, CODE, SMALL, SMALL) {
         Err(why) => Reading::Unreadable(why),
@@ -46,7 +46,7 @@ fn read_principal(rest: &[u8]) -> Reading<'_>
 
 // The command `statement` with the form and the operands behind it.
 fn read_statement(rest: &[u8]) -> Reading<'_>
-    ensures { λ r. ⌜ heard r ≡ answered (toldThree statement (three codeLimit smallLimit smallLimit (words (now (rest .entry))))) ⌝ }
+    ensures { λ r. ⌜ heard r ≡ answered (told-three statement (three code-limit small-limit small-limit (words (now (rest .entry))))) ⌝ }
 {
     match three_numbers(rest, CODE, SMALL, SMALL) {
         Err(why) => Reading::Unreadable(why),
@@ -60,7 +60,7 @@ fn read_statement(rest: &[u8]) -> Reading<'_>
 
 // The command `file` with the serial, the standing and the row behind it.
 fn read_file(rest: &[u8]) -> Reading<'_>
-    ensures { λ r. ⌜ heard r ≡ answered (toldThree files (three smallLimit codeLimit smallLimit (words (now (rest .entry))))) ⌝ }
+    ensures { λ r. ⌜ heard r ≡ answered (told-three files (three small-limit code-limit small-limit (words (now (rest .entry))))) ⌝ }
 {
     match three_numbers(rest, SMALL, CODE, SMALL) {
         Err(why) => Reading::Unreadable(why),
@@ -74,7 +74,7 @@ fn read_file(rest: &[u8]) -> Reading<'_>
 
 // The command `strike` with the serial behind it.
 fn read_strike(rest: &[u8]) -> Reading<'_>
-    ensures { λ r. ⌜ heard r ≡ answered (told strikes (one smallLimit (words (now (rest .entry))))) ⌝ }
+    ensures { λ r. ⌜ heard r ≡ answered (told strikes (one small-limit (words (now (rest .entry))))) ⌝ }
 {
     match one_number(rest, SMALL) {
         Err(why) => Reading::Unreadable(why),
@@ -95,7 +95,7 @@ fn read_book(rest: &[u8]) -> Reading<'_>
 
 // What a line says that begins with the word `first`.
 fn read_words<'a>(first: &[u8], rest: &'a [u8]) -> Reading<'a>
-    ensures { λ r. ⌜ heard r ≡ spokenBy (keyword (now (first .entry))) (words (now (rest .entry))) ⌝ }
+    ensures { λ r. ⌜ heard r ≡ spoken-by (keyword (now (first .entry))) (words (now (rest .entry))) ⌝ }
 {
     match keyword_of(first) {
         None => Reading::Unreadable(Unreadable::UnknownCommand),

@@ -12,7 +12,6 @@ ghost use Rattle.terms.specs.Rows.{principal-form, principal-x, principal-y, s
 ghost use Rattle.terms.specs.Written.{Statement, statement-written};
 use crate::names::Names;
 use crate::principals::Principals;
-use crate::row::PrincipalRow;
 use crate::row::StatementRow;
 use crate::statements::Statements;
 use denials::denial::Denial;
@@ -27,13 +26,6 @@ impl Names {
             principals: Principals::new(),
             statements: Statements::new(),
         }
-    }
-
-    // The row of the principal with the number `n`, if it is named.
-    pub fn principal_row(&self, n: u16) -> Option<PrincipalRow>
-        ensures answer { λ r. ⌜ r ≡ nth (rows-of (now (self .entry)) .principals) n ⌝ }
-    {
-        self.principals.get(n)
     }
 
     // The row of the statement with the number `n`, if it is named.

@@ -11,7 +11,7 @@ use Rattle.std.specs.declared.result.Result.the-variants.{Ok, Err}
 use Rattle.std.proofs.shelf.Lists.{length-map}
 use Rattle.denials.specs.declared.denial.Denial.{Denial}
 use Rattle.gate.specs.State.{State}
-use Rattle.job.specs.Books.{heldIn, sheets, floorOf}
+use Rattle.job.specs.Books.{held-in, sheets, floor-of}
 use Rattle.job.specs.Words.{words}
 use Rattle.console.specs.Deeds.{reply}
 use Rattle.console.specs.Desks.{desk-of, place-of, Makes}
@@ -48,7 +48,7 @@ returns-in-Ok c =
     let n = o .gate in
     let d = desk-of (c .args .self .now) in
     let e = desk-of (c .admit .last .self) in
-    let made = opened n (sheets (o .layers)) (floorOf (o .ground)) (heldIn (words (now (o .entries)))) in
+    let made = opened n (sheets (o .layers)) (floor-of (o .ground)) (held-in (words (now (o .entries)))) in
     let found = place-on-desk n gates ∙ ap (place-of n) (sym (c .deref .ensures .value)) ∙ sym (c .place-of .ensures .answer) in
     let room : length (map pile-state gates) < 8 = omega (arith, c .if-len-ge-GATES .left, c .len .ensures, c .args .self .now .gates .ok .0, length-map gates pile-state) in
     record {
@@ -63,7 +63,7 @@ returns-in-Err c =
     let o = c .args .opening in
     let n = o .gate in
     let d = desk-of (c .args .self .now) in
-    let made = opened n (sheets (o .layers)) (floorOf (o .ground)) (heldIn (words (now (o .entries)))) in
+    let made = opened n (sheets (o .layers)) (floor-of (o .ground)) (held-in (words (now (o .entries)))) in
     let found = place-on-desk n gates ∙ ap (place-of n) (sym (c .deref .ensures .value)) ∙ sym (c .place-of .ensures .answer) in
     let room : length (map pile-state gates) < 8 = omega (arith, c .if-len-ge-GATES .left, c .len .ensures, c .args .self .now .gates .ok .0, length-map gates pile-state) in
     record {
