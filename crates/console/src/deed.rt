@@ -6,11 +6,11 @@ ghost use Rattle.gate.specs.Listings.{all-live};
 ghost use Rattle.console.specs.Replies.{filed, struck};
 use crate::answer::Answer;
 use crate::answer::Fault;
+use crate::listing::live_entries;
 use book::filing::Book;
 use book::register::Register;
 use denials::denial::Denial;
 use gate::gate::Gate;
-use gate::listing::live_entries;
 use std::alloc::Global;
 
 #[derive(Clone, Copy)]

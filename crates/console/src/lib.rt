@@ -3,6 +3,7 @@ pub mod answer;
 pub mod console;
 mod deed;
 mod lines;
+mod listing;
 mod opening;
 pub mod shelf;
 pub mod words;

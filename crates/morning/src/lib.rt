@@ -7,7 +7,6 @@ use book::register::Register;
 use denials::denial::Denial;
 use denials::words::DenialDisplay;
 use gate::gate::Gate;
-use gate::listing::live_entries;
 use records::ledger::Ledger;
 use records::ledger::LedgerBook;
 use records::ledger::LedgerRegister;
@@ -169,7 +168,7 @@ fn strike<B: Book>(rt: &LibcRuntime, gate: &mut Gate<B>, serial: u16) -> io::Res
 }
 
 // An entry of the book in words.
-fn tell_entry(rt: &LibcRuntime, entry: &Entry) -> io::Result<()> {
+fn tell_entry(rt: &LibcRuntime, entry: Entry) -> io::Result<()> {
     let serial = entry.serial;
     let row = entry.row;
     match entry.standing {
@@ -178,14 +177,15 @@ fn tell_entry(rt: &LibcRuntime, entry: &Entry) -> io::Result<()> {
     }
 }
 
-// Tells what is live.
+// Tells what is live, from entry to entry in rising serial order.
 fn show_book<B: Book>(rt: &LibcRuntime, gate: &Gate<B>) -> Result<(), AnyError>
     requires { ⌜ B·Register .sound (now gate .book) ⌝ }
 {
     println!(rt, "The book now holds:")?;
-    let entries = live_entries(rt.alloc(), gate)?;
-    for entry in entries.iter() {
+    let mut at = 0;
+    while let Some(entry) = gate.next_after(at) {
         tell_entry(rt, entry)?;
+        at = entry.serial;
     }
     Ok(())
 }

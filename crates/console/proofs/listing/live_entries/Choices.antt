@@ -2,8 +2,8 @@ use Prim.Native.Nat.{suc, _-_, _≤_}
 use mathlib.Core.Path.{_≡_}
 use mathlib.Core.List.{_++_}
 use Rattle.std.specs.Of.Vec.{vec-items}
 use Rattle.gate.specs.Listings.{gathered, all-live}
-use Rattle.gate.proofs.listing.live_entries.Given as given
+use Rattle.console.proofs.listing.live_entries.Given as given
 
 abbrev pub Inv-loop-entry : given.InvT-loop-entry
 Inv-loop-entry g l =

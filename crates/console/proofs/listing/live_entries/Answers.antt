@@ -4,9 +4,9 @@ use mathlib.Core.Path.{_≡_, sym, ap, _∙_}
 use mathlib.Core.List.{List, [], _∷_, _++_}
 use Rattle.std.specs.Of.Vec.{vec-items}
 use Rattle.std.proofs.shelf.Lists.{append-assoc, append-nil}
 use Rattle.gate.specs.Listings.{gathered, all-live}
 use Rattle.gate.proofs.Gathering.{gathered-next, gathered-none, next-follows, next-none}
-use Rattle.gate.proofs.listing.live_entries.Needs as need
+use Rattle.console.proofs.listing.live_entries.Needs as need
 
 pub loop-entry-less : need.loop-entry-less
 loop-entry-less g c =
