@@ -116,9 +116,6 @@ one-more-longer before after (inl e) = omega (arith, ap length e)
 one-more-longer before after (inr s) = omega (arith, ap length (s .1), length-push before (s .0))
 
 -- what is read has the form and the operands that were given
-abbrev Told-by : {R : Type 0} → (R → ℕ) → (R → ℕ) → (R → ℕ) → ℕ → ℕ → ℕ → Result R Denial → Type 0
-Told-by form x y f a b read = Cases read (λ r. (form r ≡ f) × ((x r ≡ a) × (y r ≡ b))) (λ _. Unit {0})
-
 unused : (a y : ℕ) (fit : Bool) → (fit && eqb y 0) ≡ true → 0 ≡ y
 unused a y fit e = sym (eqb-true y 0 (and-parts _ _ e .1))
 

@@ -1,7 +1,6 @@
 -- What the tables of a gate hold.
 --
 -- rows-of n          the named rows of both tables
--- SameStatement      whether two named rows write out alike
 use Prim.Native.Nat.{ℕ}
 use mathlib.Core.Path.{_≡_}
 use lib.ListN.{take}
