@@ -1,4 +1,6 @@
 // Runs jobs and compares each answer with the one that it should get, explanations left out.
+#![tactic(auto)]
+
 ghost use Rattle.console.specs.Desks.{ConsoleSound};
 
 mod pile;

@@ -1,2 +1,4 @@
 // What the lines of a proof cite: facts, links, worlds, rows and live entries, and what a line then does.
+#![tactic(auto)]
+
 pub mod citing;

@@ -1,4 +1,6 @@
 // The console: does the commands of a job at its gates and words the answers.
+#![tactic(auto)]
+
 pub mod answer;
 pub mod console;
 mod deed;

@@ -1,2 +1,4 @@
 // Whether what a line of a proof cites fits its rule.
+#![tactic(auto)]
+
 pub mod fitting;

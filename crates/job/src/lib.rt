@@ -1,4 +1,6 @@
 // Reads the lines of a job: cuts a job into lines and a line into words, and reads a line as a command. Nothing is allocated.
+#![tactic(auto)]
+
 mod command;
 mod keyword;
 mod limits;

@@ -1,4 +1,6 @@
 // The built-in task: the morning of one recipe that needs shop and lab together.
+#![tactic(auto)]
+
 use book::entry::{BLANK, Entry, Standing};
 use book::filing::Book;
 use book::register::Register;

@@ -1,4 +1,6 @@
 // The pour gate's program: a job of lines in and an answer for each, or the built-in task told in sentences.
+#![tactic(auto)]
+
 mod jobs;
 
 use std::env;

@@ -1,4 +1,6 @@
 // Principals and statements as rows, and what they mean.
+#![tactic(auto)]
+
 pub mod names;
 mod naming;
 mod place;
