@@ -12,14 +12,14 @@ listed g c = omega arith
 pub bounds-longer-count : goal.bounds-longer-count
 bounds-longer-count g c = omega arith
 
-pub overflow-add-result : goal.overflow-add-result
-overflow-add-result g c = omega arith
+pub overflow_add-result : goal.overflow_add-result
+overflow_add-result g c = omega arith
 
-pub overflow-cast-result-2 : goal.overflow-cast-result-2
-overflow-cast-result-2 g c = omega arith
+pub overflow_cast-result-2 : goal.overflow_cast-result-2
+overflow_cast-result-2 g c = omega arith
 
-pub overflow-cast-result : goal.overflow-cast-result
-overflow-cast-result g c =
+pub overflow_cast-result : goal.overflow_cast-result
+overflow_cast-result g c =
     let sized : length c.args.rows ≡ g.row.LIMIT = omega arith in
     omega (arith, c.in-Some.ensures.within, ap (λ n. length (take n c.args.rows)) (sub-zero c.args.count), length-take-le c.args.count c.args.rows (omega arith))
 
@@ -58,5 +58,5 @@ returns g c =
       within = omega arith;
     }
 
-pub offset-bounds-longer-count : goal.offset-bounds-longer-count
-offset-bounds-longer-count g c = scaled_Fits c.args.count g.row.LIMIT _ (omega arith) (search rules)
+pub offset_bounds-longer-count : goal.offset_bounds-longer-count
+offset_bounds-longer-count g c = scaled_Fits c.args.count g.row.LIMIT _ (omega arith) (search rules)

@@ -4,13 +4,13 @@ use Rattle.terms.specs.Named.{rows_of}
 use Rattle.terms.proofs.Sound.{rows_sound, principal_named_sound, principal_lawful}
 use Rattle.terms.proofs.names.Names.principal.Goals as goal
 
-pub invariant-of-self : goal.invariant-of-self
-invariant-of-self c =
+pub invariant_of-self : goal.invariant_of-self
+invariant_of-self c =
     let old = c.args.self.now in
     let new = c.name.new.self in
     let sound = principal_named_sound (rows_of old) (rows_sound old) c.args.form c.args.x c.args.y in
     let sized : length (take new.count new.rows) ≡ new.count = length-take-le new.count new.rows (omega (arith, new.size, new.within)) in
-    ((λ n r e. omega (arith, sound.named n r e, ap length c.name.ensures.after)), tt)
+    record { named = λ n r e. omega (arith, sound.named n r e, ap length c.name.ensures.after) }
 
 pub returns : goal.returns
 returns c =

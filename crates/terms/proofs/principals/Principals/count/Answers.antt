@@ -2,8 +2,8 @@ use Rattle.std.proofs.Common.{sym, arith}
 use Rattle.std.proofs.lemmas.List.{length-take-le}
 use Rattle.terms.proofs.principals.Principals.count.Goals as goal
 
-pub overflow-cast-result : goal.overflow-cast-result
-overflow-cast-result c = omega (arith, c.args.self.now.within)
+pub overflow_cast-result : goal.overflow_cast-result
+overflow_cast-result c = omega (arith, c.args.self.now.within)
 
 pub returns : goal.returns
 returns c =

@@ -5,20 +5,17 @@ use Rattle.terms.specs.Tables.{Distinct, PartsEarlier, statement_needs}
 use Rattle.terms.proofs.TableLaws.{distinct_put, every_put, read_statement_needs}
 use Rattle.terms.proofs.statements.Statements.name.Goals as goal
 
-pub invariant-of-self : goal.invariant-of-self
-invariant-of-self c =
+pub invariant_of-self : goal.invariant_of-self
+invariant_of-self c =
     let old = c.args.self.now in
     let rows = take old.count old.rows in
-    let row = c.in-ok-row.row in
-    let after = c.in-ok-rows.ensures.after in
-    let read = sym c.read_statement.ensures.answer ∙ c.in-ok-row.was in
-    let here : statement_needs row ≤ length rows = omega (arith, c.count.ensures.answer, MatchResult-at_ok _ _ row read (read_statement_needs c.args.principals c.count.result c.args.form c.args.x c.args.y)) in (
-      omega arith,
-      (
-        omega (arith, c.in-ok-rows.ensures.within),
-        (
-          subst Distinct (sym after) (distinct_put statement_form statement_x statement_y 256 rows row _ refl old.distinct),
-          (subst (PartsEarlier statement_needs) (sym after) (every_put (λ n r. statement_needs r ≤ n) 256 rows row _ here old.earlier), tt),
-        ),
-      ),
-    )
+    let row = c.in_ok-row.row in
+    let after = c.in_ok-rows.ensures.after in
+    let read = sym c.read_statement.ensures.answer ∙ c.in_ok-row.was in
+    let here : statement_needs row ≤ length rows = omega (arith, c.count.ensures.answer, MatchResult-at_ok _ _ row read (read_statement_needs c.args.principals c.count.result c.args.form c.args.x c.args.y)) in
+    record {
+      size = omega arith;
+      within = omega (arith, c.in_ok-rows.ensures.within);
+      distinct = subst Distinct (sym after) (distinct_put statement_form statement_x statement_y 256 rows row _ refl old.distinct);
+      earlier = subst (PartsEarlier statement_needs) (sym after) (every_put (λ n r. statement_needs r ≤ n) 256 rows row _ here old.earlier);
+    }
