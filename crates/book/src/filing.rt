@@ -22,17 +22,17 @@ pub trait Book: Register {
 
     // Adds a live entry, which takes one free place.
     fn file(&mut self, entry: Entry) -> Result<(), Denial>
-        requires { sound self.old }
-        ensures sound { sound self.new }
-        ensures answer { result ≡ file_answer (means (live self.old) (barred self.old) (free self.old)) entry }
-        ensures after { means (live self.new) (barred self.new) (free self.new) ≡ file_after (means (live self.old) (barred self.old) (free self.old)) entry }
+        requires { Self.sound self.old }
+        ensures sound { Self.sound self.new }
+        ensures answer { result ≡ file_answer (means (Self.live self.old) (barred self.old) (free self.old)) entry }
+        ensures after { means (Self.live self.new) (barred self.new) (free self.new) ≡ file_after (means (Self.live self.old) (barred self.old) (free self.old)) entry }
         ensures behind { behind self.old self.new };
 
     // Removes a live entry, which frees one place.
     fn strike(&mut self, serial: u16) -> Result<(), Denial>
-        requires { sound self.old }
-        ensures sound { sound self.new }
-        ensures answer { result ≡ strike_answer (means (live self.old) (barred self.old) (free self.old)) serial }
-        ensures after { means (live self.new) (barred self.new) (free self.new) ≡ strike_after (means (live self.old) (barred self.old) (free self.old)) serial }
+        requires { Self.sound self.old }
+        ensures sound { Self.sound self.new }
+        ensures answer { result ≡ strike_answer (means (Self.live self.old) (barred self.old) (free self.old)) serial }
+        ensures after { means (Self.live self.new) (barred self.new) (free self.new) ≡ strike_after (means (Self.live self.old) (barred self.old) (free self.old)) serial }
         ensures behind { behind self.old self.new };
 }

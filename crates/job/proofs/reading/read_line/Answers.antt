@@ -3,8 +3,8 @@ use Rattle.job.specs.Commands.{silent, heard, reading}
 use Rattle.job.proofs.Exactness.{exactly}
 use Rattle.job.proofs.reading.read_line.Goals as goal
 
-pub returns-then-is-empty : goal.returns-then-is-empty
-returns-then-is-empty c =
+pub returns-then-is_empty : goal.returns-then-is_empty
+returns-then-is_empty c =
     let line = c.args.line.now in
     let e : silent ≡ reading line = search rules in
     record { answer = e; exactly = exactly line silent e }
@@ -18,5 +18,5 @@ returns-in-None c =
 pub returns-in-Some : goal.returns-in-Some
 returns-in-Some c =
     let line = c.args.line.now in
-    let e : heard c.read-words.result ≡ reading line = search rules in
+    let e : heard c.read_words.result ≡ reading line = search rules in
     record { answer = e; exactly = exactly line _ e }

@@ -31,5 +31,5 @@ returns g c =
     record {
       answer = pass_none (sheet_list c.args.self.now.sheet) (g.B.Register.live below)
           (g.B.Register.orderly below c.requires.1) c.args.serial c.loop-entry.at c.loop-entry.invariant
-          c.in-default.ensures.answer;
+          c.in_default.ensures.answer;
     }

@@ -14,8 +14,8 @@ returns-then-contains c =
     let said = add_old (sheet_list c.args.self.now) c.args.serial c.if-serial-eq0.false (sym c.if-contains.ensures.answer) in
     record { sound = c.requires; answer = sym said.0; after = sym said.1 }
 
-pub returns-then-self-eq-SHEET-SIZE : goal.returns-then-self-eq-SHEET-SIZE
-returns-then-self-eq-SHEET-SIZE c =
+pub returns-then-self-eq-SHEET_SIZE : goal.returns-then-self-eq-SHEET_SIZE
+returns-then-self-eq-SHEET_SIZE c =
     let sheet = c.args.self.now in
     let full : 64 ≤ length (sheet_list sheet) = omega (arith, c.requires.room, length-take-le sheet.count sheet.serials (omega (arith, c.requires.room, c.requires.fits))) in
     let said = add_full (sheet_list sheet) c.args.serial c.if-serial-eq0.false (sym c.if-contains.ensures.answer) full in
