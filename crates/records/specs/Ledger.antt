@@ -39,10 +39,10 @@ pub record SameBehind (r s : MutBor (List Entry)) : Type 0 where
   pub size : length s.now ≡ length r.now
   pub records : Behind r.now s.now
 
-pub behind_still : (r : Bor (List Entry)) → SameBehind r r
+pub behind_still : (r : MutBor (List Entry)) → SameBehind r r
 behind_still r = record { lender = refl; size = refl; records = λ k le. refl }
 
-pub behind_onward : (r s t : Bor (List Entry)) → SameBehind r s → SameBehind s t → SameBehind r t
+pub behind_onward : (r s t : MutBor (List Entry)) → SameBehind r s → SameBehind s t → SameBehind r t
 behind_onward r s t a b = record {
   lender = b.lender ∙ a.lender;
   size = b.size ∙ a.size;

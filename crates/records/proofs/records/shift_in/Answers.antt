@@ -5,11 +5,11 @@ use Rattle.records.proofs.records.shift_in.Goals as goal
 
 pub returns : goal.returns
 returns c =
-    let zs = c.copy-within.new.self in
+    let zs = c.copy_within.new.self in
     let xs = c.args.records.now in
     let at = c.args.at in
     let e = c.args.entry in
-    let copied = c.copy-within.ensures in
+    let copied = c.copy_within.ensures in
     let same : length zs ≡ length xs = copied.len in
     record {
       size = length-set zs at e ∙ same;

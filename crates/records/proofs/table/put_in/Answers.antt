@@ -18,8 +18,8 @@ returns-then-count-size c =
 pub returns-else-count-size : goal.returns-else-count-size
 returns-else-count-size c =
     let absent = c.in-Err.ensures in
-    let shifted = c.shift-in.ensures in
-    let done = put c.args.records.now c.shift-in.new.records c.args.size c.args.count.now (c.args.count.now + 1) c.in-Err.at
+    let shifted = c.shift_in.ensures in
+    let done = put c.args.records.now c.shift_in.new.records c.args.size c.args.count.now (c.args.count.now + 1) c.in-Err.at
     c.args.entry c.requires (omega arith) absent.0 absent.1 (omega arith) (omega arith) shifted (omega arith) in
     record {
       kept = done.kept;

@@ -8,8 +8,8 @@ use Rattle.records.proofs.table.take_out.Goals as goal
 pub returns-in-Ok : goal.returns-in-Ok
 returns-in-Ok c =
     let found = c.in-Ok.ensures in
-    let shifted = c.shift-out.ensures in
-    let done = out c.args.records.now c.shift-out.new.records c.args.size c.args.count.now (c.args.count.now - 1) c.in-Ok.at
+    let shifted = c.shift_out.ensures in
+    let done = out c.args.records.now c.shift_out.new.records c.args.size c.args.count.now (c.args.count.now - 1) c.in-Ok.at
     c.args.serial c.requires found.0 found.1 shifted (omega arith) in
     record {
       kept = done.kept;
