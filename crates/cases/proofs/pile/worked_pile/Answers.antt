@@ -17,10 +17,10 @@ told upper lower m = asked (piled upper lower m) (a_rule 5 2) (a_rule 7 3)
 pub returns : goal.returns
 returns c =
     let p = c.new-pile.result in
-    let high : sheet_list p.sheet ≡ 5 ∷ [] = ap sheet_list c.new-pile.ensures.sheet ∙ c.sheet-of.ensures.list in
+    let high : sheet_list p.sheet ≡ 5 ∷ [] = ap sheet_list c.new-pile.ensures.sheet ∙ c.sheet_of.ensures.list in
     let low : sheet_list p.below.sheet ≡ 6 ∷ [] =
     ap (λ b. sheet_list b.sheet) c.new-pile.ensures.below ∙ ap sheet_list c.new.ensures.sheet ∙
-    c.sheet-of-2.ensures.list in
+    c.sheet_of-2.ensures.list in
     let book : owned-means p.below.below ≡ held_before =
     ap (λ b. owned-means b.below) c.new-pile.ensures.below ∙ ap owned-means c.new.ensures.below ∙
     c.file.ensures.after ∙ ap (λ m. file_after m (a_rule 5 2)) c.new-ledger.ensures.empty in

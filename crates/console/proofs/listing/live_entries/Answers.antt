@@ -20,7 +20,7 @@ loop-entry-preserved g c =
     let follows = next_follows live orderly c.loop-entry.at c.in-Some.entry c.in-Some.ensures.answer in
     let next = gathered_next live orderly c.loop-entry.at c.in-Some.entry follows in
     let rest = gathered live (suc c.in-Some.entry.serial) (65535 - c.in-Some.entry.serial) in
-    let pushed : vec_items c.push.new.self ≡ vec_items c.loop-entry.entries ++ (c.in-Some.entry ∷ []) = c.in-ok-push.ensures.items in
+    let pushed : vec_items c.push.new.self ≡ vec_items c.loop-entry.entries ++ (c.in-Some.entry ∷ []) = c.in_ok-push.ensures.items in
     (ap (λ l. l ++ rest) pushed ∙ append_assoc (vec_items c.loop-entry.entries) (c.in-Some.entry ∷ []) rest ∙ ap (λ l. vec_items c.loop-entry.entries ++ l) (sym next.0) ∙ c.loop-entry.invariant.0, next.1)
 
 pub returns : goal.returns
@@ -28,5 +28,5 @@ returns g c =
     let book = c.args.gate.now.book in
     let live = g.B.Register.live book in
     let orderly = g.B.Register.orderly book c.requires in
-    let none = gathered_none live c.loop-entry.at (next_none live orderly c.loop-entry.at c.in-default.ensures.answer) in
+    let none = gathered_none live c.loop-entry.at (next_none live orderly c.loop-entry.at c.in_default.ensures.answer) in
     record { entries = sym (append-nil _) ∙ ap (λ l. vec_items c.loop-entry.entries ++ l) (sym none) ∙ c.loop-entry.invariant.0 }
