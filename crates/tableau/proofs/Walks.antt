@@ -1,5 +1,5 @@
 -- The lines of a walk, from line to line.
-use Rattle.std.proofs.Common.{◌≡◌, ℕ, suc, ◌+◌, ◌-◌, ◌<◌, ◌≤◌, Bool, true, false, List, [], ◌∷◌, Ok, Err, Result, sym, refl, ap, ◌∙◌, subst, arith, Bor}
+use Rattle.std.proofs.Common.{◌≡◌, ℕ, suc, ◌+◌, ◌-◌, ◌<◌, ◌≤◌, Bool, true, false, List, [], ◌∷◌, Ok, Err, Result, sym, refl, ap, ◌∙◌, subst, arith, MutBor}
 use Rattle.denials.specs.declared.denial.Denial.{Denial}
 use Rattle.denials.specs.Denials.{denied}
 use Rattle.trail.specs.declared.trail.Trail.{Trail}
@@ -27,7 +27,7 @@ pub record Walking (g : Given) (bytes : List ℕ) (count : ℕ) (f₀ : Trail Fa
 next_line : (bytes : List ℕ) (count i : ℕ) → i < count → lines_from bytes i (count - i) ≡ line_at bytes i ∷ lines_from bytes (i + 1) (count - (i + 1))
 next_line bytes count i below = let more : count - i ≡ suc (count - (i + 1)) = omega arith in ap (lines_from bytes i) more
 
-same_through : {X : Type 0} (r s t : Bor (List X)) → SamePlaces r s → SamePlaces s t → SamePlaces r t
+same_through : {X : Type 0} (r s t : MutBor (List X)) → SamePlaces r s → SamePlaces s t → SamePlaces r t
 same_through r s t p q = record { lender = q.lender ∙ p.lender; size = q.size ∙ p.size }
 
 pub tables_through : (f₀ f f₁ : Trail Fact) (l₀ l l₁ : Trail Link) (k₀ k k₁ : Trail Fork) → SameTables f₀ l₀ k₀ f l k → SameTables f l k f₁ l₁ k₁ → SameTables f₀ l₀ k₀ f₁ l₁ k₁

@@ -6,8 +6,8 @@ use Rattle.steps.specs.Tables.{limits_of}
 use Rattle.steps.proofs.Forks.{room_for_kept}
 use Rattle.steps.proofs.moving.close.Goals as goal
 
-pub add-side-requires : goal.add-side-requires
-add-side-requires c =
+pub add_side-requires : goal.add_side-requires
+add_side-requires c =
     let lim = limits_of c.args.facts.now c.args.links.now c.args.forks.now in
     let fork = c.in-Some.fork in
     let fit = subst (ForksFit lim) c.in-Some.ensures.answer c.requires.fit in

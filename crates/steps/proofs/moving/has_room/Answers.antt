@@ -16,7 +16,7 @@ returns c =
     let free-links = free_places blank_link links sound.links c.room-2.result p.links c.room-2.ensures.answer in
     let free-forks = free_places blank_fork forks sound.forks c.room-3.result p.forks c.room-3.ensures.answer ∙ ap (λ n. leb (n + p.forks) (capacity_of forks)) (sym (length-reverse (entries_of forks))) in
     record {
-      answer = c.fits-in.ensures ∙ (λ i. free-facts i && (free-links i && (leb (c.args.worlds + p.worlds) 1024 && free-forks i)));
+      answer = c.fits_in.ensures ∙ (λ i. free-facts i && (free-links i && (leb (c.args.worlds + p.worlds) 1024 && free-forks i)));
       facts = c.room.ensures.unchanged;
       links = c.room-2.ensures.unchanged;
       forks = c.room-3.ensures.unchanged;

@@ -6,10 +6,10 @@ use Rattle.steps.proofs.moving.latest.Goals as goal
 pub returns : goal.returns
 returns c =
     let xs = entries_of c.args.forks.now in
-    let n = c.saturating-sub-last.result in
+    let n = c.saturating_sub-last.result in
     let o = c.get-fork.result in
     let same = c.get-fork.ensures.unchanged in
-    let last : n ≡ length xs - 1 = c.saturating-sub-last.ensures ∙ ap (λ k. k - 1) c.len.ensures.answer in
+    let last : n ≡ length xs - 1 = c.saturating_sub-last.ensures ∙ ap (λ k. k - 1) c.len.ensures.answer in
     let cut : entries_of c.cut.new.self ≡ take n xs = c.cut.ensures.after ∙ ap (λ t. take n (entries_of t)) same in
     record {
       sound = c.cut.ensures.sound;

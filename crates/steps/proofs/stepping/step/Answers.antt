@@ -15,12 +15,12 @@ make-requires g c =
     let k = c.args.forks.now in
     let w = c.args.worlds.now in
     let m = c.in-Ok.movement in
-    let facts : c.has-room.new.facts ≡ f = c.if-has-room.ensures.facts ∙ c.in-Ok.ensures.facts in
-    let links : c.has-room.new.links ≡ l = c.if-has-room.ensures.links ∙ c.in-Ok.ensures.links in
-    let forks : c.has-room.new.forks ≡ k = c.if-has-room.ensures.forks in
+    let facts : c.has_room.new.facts ≡ f = c.if-has_room.ensures.facts ∙ c.in-Ok.ensures.facts in
+    let links : c.has_room.new.links ≡ l = c.if-has_room.ensures.links ∙ c.in-Ok.ensures.links in
+    let forks : c.has_room.new.forks ≡ k = c.if-has_room.ensures.forks in
     let free : roomy (limits_of f l k) (branch_of f l w) (forks_of k) (takes c.in-Some.shape.rule) ≡ true =
     subst (λ p. roomy (limits_of f l k) (branch_of f l w) (forks_of k) p ≡ true) c.takes.ensures.answer
-    (for_same (λ x y z. roomy (limits_of x y z) (branch_of x y w) (forks_of z) c.takes.result ≡ true) _ f _ l k k (sym c.in-Ok.ensures.facts) (sym c.in-Ok.ensures.links) refl (sym c.if-has-room.ensures.answer)) in
+    (for_same (λ x y z. roomy (limits_of x y z) (branch_of x y w) (forks_of z) c.takes.result ≡ true) _ f _ l k k (sym c.in-Ok.ensures.facts) (sym c.in-Ok.ensures.links) refl (sym c.if-has_room.ensures.answer)) in
     let room = room_to_move f l k w (given (rows_of c.args.names.now) (g.R.Register.live c.args.book.now)) c.args.line c.args.number c.in-Some.shape m (sym c.in-Some.ensures.answer) (sym c.in-Ok.ensures.answer) free in
     record {
       sound = for_same SoundTables f _ l _ k _ facts links forks c.requires.sound;
@@ -29,19 +29,19 @@ make-requires g c =
       room = for_same (λ x y z. Room (limits_of x y z) (branch_of x y w) (forks_of z) (sizes (effect m))) f _ l _ k _ facts links forks room;
     }
 
-pub returns-then-has-room : goal.returns-then-has-room
-returns-then-has-room g c =
+pub returns-then-has_room : goal.returns-then-has_room
+returns-then-has_room g c =
     let f = c.args.facts.now in
     let l = c.args.links.now in
     let k = c.args.forks.now in
     let w = c.args.worlds.now in
     let made = c.make.ensures in
-    let facts : c.has-room.new.facts ≡ f = c.if-has-room.ensures.facts ∙ c.in-Ok.ensures.facts in
-    let links : c.has-room.new.links ≡ l = c.if-has-room.ensures.links ∙ c.in-Ok.ensures.links in
-    let forks : c.has-room.new.forks ≡ k = c.if-has-room.ensures.forks in
+    let facts : c.has_room.new.facts ≡ f = c.if-has_room.ensures.facts ∙ c.in-Ok.ensures.facts in
+    let links : c.has_room.new.links ≡ l = c.if-has_room.ensures.links ∙ c.in-Ok.ensures.links in
+    let forks : c.has_room.new.forks ≡ k = c.if-has_room.ensures.forks in
     let free : roomy (limits_of f l k) (branch_of f l w) (forks_of k) (takes c.in-Some.shape.rule) ≡ true =
     subst (λ p. roomy (limits_of f l k) (branch_of f l w) (forks_of k) p ≡ true) c.takes.ensures.answer
-    (for_same (λ x y z. roomy (limits_of x y z) (branch_of x y w) (forks_of z) c.takes.result ≡ true) _ f _ l k k (sym c.in-Ok.ensures.facts) (sym c.in-Ok.ensures.links) refl (sym c.if-has-room.ensures.answer)) in
+    (for_same (λ x y z. roomy (limits_of x y z) (branch_of x y w) (forks_of z) c.takes.result ≡ true) _ f _ l k k (sym c.in-Ok.ensures.facts) (sym c.in-Ok.ensures.links) refl (sym c.if-has_room.ensures.answer)) in
     let done = stepped (given (rows_of c.args.names.now) (g.R.Register.live c.args.book.now)) f _ _ l _ _ k _ _ w c.make.new.worlds c.args.line c.args.number c.make.result c.in-Some.shape c.in-Ok.movement
     facts links forks (sym c.in-Some.ensures.answer) (sym c.in-Ok.ensures.answer) free c.requires.sound c.requires.few c.requires.fit made.same made.after in
     record { sound = made.sound; same = done.same; few = made.few; answer = done.answer; fit = done.fit }

@@ -23,18 +23,18 @@ returns g c =
       worlds = 1024;
       lines = 8000;
     } in
-    let is : c.walk-file-answer.result ≡ walked lim book bytes = c.walk-file-answer.ensures.answer ∙ ap (λ m. walked m book bytes) limits in
+    let is : c.walk_file-answer.result ≡ walked lim book bytes = c.walk_file-answer.ensures.answer ∙ ap (λ m. walked m book bytes) limits in
     record {
       answer = is;
-      exactly = exactly_so lim book bytes c.walk-file-answer.result (omega arith) is;
-      follows = grounded lim book bytes c.walk-file-answer.result (omega arith) is (rows_sound names);
-      blank-facts =
-          let lent = sym (c.cut.ensures.places.lender ∙ c.walk-file-answer.ensures.same.facts.lender ∙ c.new-facts.ensures.places.lender) in
-          all_blank blank_fact c.cut.new.self c.cut.ensures.sound c.cut.ensures.after c.facts-3·1.given.0 (c.facts-3·1.given.1.1 lent);
-      blank-links =
-          let lent = sym (c.cut-2.ensures.places.lender ∙ c.walk-file-answer.ensures.same.links.lender ∙ c.new-links.ensures.places.lender) in
-          all_blank blank_link c.cut-2.new.self c.cut-2.ensures.sound c.cut-2.ensures.after c.links-3·1.given.0 (c.links-3·1.given.1.1 lent);
-      blank-forks =
-          let lent = sym (c.cut-3.ensures.places.lender ∙ c.walk-file-answer.ensures.same.forks.lender ∙ c.new-forks.ensures.places.lender) in
-          all_blank blank_fork c.cut-3.new.self c.cut-3.ensures.sound c.cut-3.ensures.after c.forks-3·1.given.0 (c.forks-3·1.given.1.1 lent);
+      exactly = exactly_so lim book bytes c.walk_file-answer.result (omega arith) is;
+      follows = grounded lim book bytes c.walk_file-answer.result (omega arith) is (rows_sound names);
+      blank_facts =
+          let lent = sym (c.cut.ensures.places.lender ∙ c.walk_file-answer.ensures.same.facts.lender ∙ c.new-facts.ensures.places.lender) in
+          all_blank blank_fact c.cut.new.self c.cut.ensures.sound c.cut.ensures.after c.facts-3-1.given.0 (c.facts-3-1.given.1.1 lent);
+      blank_links =
+          let lent = sym (c.cut-2.ensures.places.lender ∙ c.walk_file-answer.ensures.same.links.lender ∙ c.new-links.ensures.places.lender) in
+          all_blank blank_link c.cut-2.new.self c.cut-2.ensures.sound c.cut-2.ensures.after c.links-3-1.given.0 (c.links-3-1.given.1.1 lent);
+      blank_forks =
+          let lent = sym (c.cut-3.ensures.places.lender ∙ c.walk_file-answer.ensures.same.forks.lender ∙ c.new-forks.ensures.places.lender) in
+          all_blank blank_fork c.cut-3.new.self c.cut-3.ensures.sound c.cut-3.ensures.after c.forks-3-1.given.0 (c.forks-3-1.given.1.1 lent);
     }

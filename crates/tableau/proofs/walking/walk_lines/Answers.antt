@@ -22,7 +22,7 @@ returns-in-Err g c =
     let at = c.loop-i in
     let d = c.in-Err.denial in
     let said = c.in-Err.ensures in
-    let walks = subst (λ l. line_walked (limits_of at.facts at.links at.forks) book (branch_of at.facts at.links at.worlds) (forks_of at.forks) l (at.i + 1) ≡ Err d) c.line-at-line.ensures said.answer in
+    let walks = subst (λ l. line_walked (limits_of at.facts at.links at.forks) book (branch_of at.facts at.links at.worlds) (forks_of at.forks) l (at.i + 1) ≡ Err d) c.line_at-line.ensures said.answer in
     record {
       sound = said.sound;
       same = tables_through _ _ _ _ _ _ _ _ _ at.invariant.same said.same;
@@ -35,6 +35,6 @@ loop-i-preserved g c =
     let at = c.loop-i in
     let to = c.step.new in
     let said = c.in-Ok.ensures in
-    let walks = subst (λ l. line_walked (limits_of at.facts at.links at.forks) book (branch_of at.facts at.links at.worlds) (forks_of at.forks) l (at.i + 1) ≡ Ok (progress_of c.in-Ok.done to.facts to.links to.forks to.worlds)) c.line-at-line.ensures said.answer in
+    let walks = subst (λ l. line_walked (limits_of at.facts at.links at.forks) book (branch_of at.facts at.links at.worlds) (forks_of at.forks) l (at.i + 1) ≡ Ok (progress_of c.in-Ok.done to.facts to.links to.forks to.worlds)) c.line_at-line.ensures said.answer in
     goes_on book c.args.file.now c.args.count c.args.facts.now c.args.links.now c.args.forks.now at.i at.facts at.links at.forks at.worlds (omega arith)
     at.complete c.in-Ok.done to.facts to.links to.forks to.worlds c.if-complete.false at.invariant said.sound said.same said.few said.fit walks
