@@ -1,5 +1,5 @@
 -- The law of two recall layers over any book. Assumes nothing.
-use Rattle.std.proofs.Common.{◌≡◌, ℕ, true, false, ◌⊎◌, List, Err, sym, refl, ap, ◌∙◌, ⊎_elim}
+use Rattle.std.proofs.Common.{◌≡◌, ℕ, true, false, List, Err, sym, refl, ap, ◌∙◌, ⊎_elim}
 use Rattle.std.proofs.lemmas.Bool.{cases_Bool, cond-true, cond-false}
 use Rattle.denials.specs.Denials.{denied}
 use Rattle.book.specs.Meaning.{Meaning, file_answer, file_after, strike_answer, strike_after}

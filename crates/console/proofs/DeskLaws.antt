@@ -1,9 +1,9 @@
 -- The console's gates as a list: soundness, places, and what each looks like on the desk.
-use Rattle.std.proofs.Common.{◌≡◌, ℕ, zero, suc, ◌<◌, ◌≤◌, Bool, true, false, cond, eqb, leb, ◌⊎◌, List, [], ◌∷◌, ◌++◌, map, length, get_or, set, is_some, Some, None, Option, Result, sym, refl, ap, ◌∙◌, subst, inl, inr, arith, le-leb}
+use Rattle.std.proofs.Common.{◌≡◌, ℕ, zero, suc, ◌<◌, ◌≤◌, Bool, true, false, cond, eqb, leb, List, [], ◌∷◌, ◌++◌, map, length, get_or, set, is_some, Some, Result, sym, refl, ap, ◌∙◌, subst, inl, inr, arith, le-leb}
 use Rattle.std.specs.List.{slice_get}
 use Rattle.std.proofs.lemmas.Bool.{cases_eq}
 use Rattle.terms.specs.Naming.{position, further}
-use Rattle.terms.proofs.Nths.{nth_push, nth_below}
+use Rattle.terms.proofs.Nths.{nth_push}
 use Rattle.gate.specs.declared.gate.Gate.{Gate}
 use Rattle.std.proofs.lemmas.Option.{slice_get-get_or}
 use borrow.Author.Tests.{lt-leb}

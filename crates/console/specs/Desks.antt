@@ -9,7 +9,7 @@
 -- turn_reply d n, turned d n    what `at` answers and leaves
 -- AtGate d deed r e         what a deed at the current gate answers and leaves
 -- Did d said r e            what a command answers and leaves
-use Rattle.std.specs.Prelude.{◌≡◌, ℕ, Bool, cond, List, [], ◌∷◌, ◌++◌, map, length, is_some, Some, None, Ok, Err, vec_items, Option, Result, nat_eq, nat_le, slice_set}
+use Rattle.std.specs.Prelude.{◌≡◌, ℕ, cond, List, [], ◌∷◌, ◌++◌, map, length, is_some, Some, None, Ok, Err, vec_items, Option, Result, nat_eq, nat_le, slice_set}
 use Rattle.std.specs.List.{slice_get}
 use Rattle.denials.specs.declared.denial.Denial.{Denial}
 use Rattle.terms.specs.Naming.{position}
@@ -18,7 +18,7 @@ use Rattle.gate.specs.State.{State}
 use Rattle.job.specs.Commands.{Said, opens, turns, principal, statement, files, strikes, lists, Heard, silent, command}
 use Rattle.job.specs.Commands.{unreadable as misread}
 use Rattle.console.specs.declared.answer.Answer.{Answer}
-use Rattle.console.specs.declared.answer.Fault.TheVariants.{Line, NoGate, OpenAlready, NotOpen, NinthGate, NoMemory}
+use Rattle.console.specs.declared.answer.Fault.TheVariants.{Line, NoGate, OpenAlready, NotOpen, NinthGate}
 use Rattle.console.specs.declared.console.Console.{Console}
 use Rattle.console.specs.declared.deed.Deed.{Deed}
 use Rattle.console.specs.declared.deed.Deed.TheVariants.{Principal, Statement, File, Strike, List as Listing}

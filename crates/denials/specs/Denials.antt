@@ -3,7 +3,7 @@
 -- reasons       the reasons in the order of their numbers
 -- count_up m n  the n numbers from m on
 -- denied n p    the denial with the number n at the place p
-use Rattle.std.specs.Prelude.{ℕ, zero, suc, ◌-◌, Bool, true, false, cond, ◌||◌, List, [], ◌∷◌, ◌==◌, nat_le, slice_index_or}
+use Rattle.std.specs.Prelude.{ℕ, zero, suc, ◌-◌, Bool, false, cond, ◌||◌, List, [], ◌∷◌, ◌==◌, nat_le, slice_index_or}
 use Rattle.denials.specs.declared.denial.Reason.{Reason}
 use Rattle.denials.specs.declared.denial.Reason.TheVariants.{UnknownForm, BadOperand, TableFull, UnknownStanding, RowNotNamed, SerialZero, SerialBarred, SerialLive, NoFreePlace, SlipOpen, NotLive, EightSlipsOpen, NumbersSpent, NoMark, WrongVersion, WrongKind, RequestNotNamed, CountOutOfRange, WrongLength, AlreadyComplete, UnknownCode, NoSuchOperand, NoLiveEntry, NeedsDoNotFit, NoPlace, BranchOpen, TooManyAtoms, NoSuchWorld, WorkTableShort, EntryNotNamed, EntryFails, RequestHolds, NoSuchSlip, SheetFull}
 use Rattle.denials.specs.declared.denial.Origin.{Origin}

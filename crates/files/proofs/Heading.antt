@@ -1,9 +1,8 @@
 -- A head is read just where the file begins with one.
-use Rattle.std.proofs.Common.{◌≡◌, ℕ, ◌≤◌, Bool, true, false, cond, ◌&&◌, eqb, leb, List, length, Ok, Err, Result, sym, refl, ap, ◌∙◌, arith}
+use Rattle.std.proofs.Common.{◌≡◌, ℕ, Bool, true, false, cond, eqb, length, Ok, Err, Result, sym, refl, ap, ◌∙◌, arith}
 use Rattle.std.proofs.lemmas.Bool.{and_parts, and_from, leb-true, le-leb, eqb-true, eq-eqb, cond-true}
 use Rattle.denials.specs.declared.denial.Denial.{Denial}
 use Rattle.denials.specs.Denials.{denied}
-use Rattle.files.specs.declared.head.Head.{Head}
 use Rattle.files.specs.Heads.{byte, number, marked, among, head_at, head_read, Headed, HeadExactly}
 
 passed : {X : Type 0} (b : Bool) (r : Result X Denial) (d : Denial) (x : X) → cond b r (Err d) ≡ Ok x → (b ≡ true) × (r ≡ Ok x)

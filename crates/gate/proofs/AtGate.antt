@@ -1,5 +1,5 @@
 -- Filing and striking at a gate do what they are said to.
-use Rattle.std.proofs.Common.{◌≡◌, ℕ, Bool, true, false, cond, eqb, is_some, Some, None, Ok, Err, Option, Result, sym, refl, ap, ◌∙◌, subst}
+use Rattle.std.proofs.Common.{◌≡◌, ℕ, Bool, true, false, cond, eqb, is_some, Some, None, Err, Option, Result, sym, refl, subst}
 use Rattle.std.specs.List.{slice_get}
 use Rattle.std.proofs.lemmas.Bool.{eqb-true, eqb-false}
 use Rattle.denials.specs.declared.denial.Denial.{Denial}
@@ -7,7 +7,7 @@ use Rattle.terms.specs.declared.row.StatementRow.{StatementRow}
 use Rattle.denials.specs.Denials.{denied}
 use Rattle.book.specs.declared.entry.Standing.{Standing}
 use Rattle.book.specs.declared.entry.Standing.TheVariants.{Rule, Saying}
-use Rattle.book.specs.Meaning.{Meaning, file_answer, file_after}
+use Rattle.book.specs.Meaning.{file_answer, file_after}
 use Rattle.book.proofs.Exact.{filed_computes, struck_computes}
 use Rattle.gate.specs.State.{State, with_book, entry_of, filing, filing_left, filing_as, filing_left_as, striking, striking_left}
 use Rattle.gate.specs.Laws.{Stands, as_rule, as_saying, FiledAt, no_standing, no_row, by_book, StruckAt}

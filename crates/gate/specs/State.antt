@@ -10,7 +10,7 @@
 -- filing g serial standing row           what filing answers: denied 4, standing neither 1 nor 2; denied 5, row not named; then as the book answers
 -- filing_left g serial standing row      the gate afterwards
 -- striking g serial, striking_left       striking: as the book answers
-use Rattle.std.specs.Prelude.{ℕ, Bool, true, false, cond, [], is_some, Some, None, Ok, Err, Option, Result, ◌==◌}
+use Rattle.std.specs.Prelude.{ℕ, Bool, cond, [], is_some, Some, None, Err, Option, Result, ◌==◌}
 use Rattle.std.specs.List.{slice_get}
 use Rattle.denials.specs.declared.denial.Denial.{Denial}
 use Rattle.denials.specs.Denials.{denied}

@@ -1,17 +1,17 @@
 -- A line that says a command is read as that command. Assumes nothing.
-use Rattle.std.proofs.Common.{◌≡◌, ℕ, ◌<◌, ◌≤◌, Bool, true, false, cond, eqb, List, [], ◌∷◌, ◌++◌, length, Some, None, Ok, Err, codes, Option, Result, sym, refl, ap, ◌∙◌, subst, ⊎_elim, append_assoc, arith}
+use Rattle.std.proofs.Common.{◌≡◌, ℕ, ◌≤◌, true, false, cond, eqb, List, [], ◌∷◌, ◌++◌, length, Some, None, Ok, Err, codes, Option, Result, refl, ap, ◌∙◌, subst, ⊎_elim, append_assoc, arith}
 use Rattle.std.specs.List.{AllByRecursion as All}
 use Rattle.std.specs.Str.{bytes_eq}
 use Rattle.std.proofs.lemmas.Slice.Eq.{bytes_eq-Decides}
 use Rattle.std.proofs.lemmas.Bool.{cases_Bool, cond-true, cond-false, ne_eqb}
 use Rattle.job.specs.declared.unreadable.Unreadable.{Unreadable}
 use Rattle.job.specs.declared.unreadable.Unreadable.TheVariants.{BadEntry}
-use Rattle.job.specs.Books.{Floor, ledger, card, Held, held, listing, listed, passing, behind_over, recalling, layer, below, layers, floor, given, entry, holding, held_in, also, all_held, some_held, entries}
-use Rattle.job.specs.Commands.{Said, opens, turns, principal, statement, files, strikes, lists, Heard, command, told, told_three, told_held, opening, answered, spoken}
+use Rattle.job.specs.Books.{Floor, ledger, Held, held, listing, listed, passing, behind_over, recalling, layer, below, layers, floor, given, entry, holding, held_in, also, all_held, entries}
+use Rattle.job.specs.Commands.{Said, opens, turns, principal, statement, files, strikes, command, told, told_three, told_held, opening, answered, spoken}
 use Rattle.job.specs.Grammar.{Serials, no_serial, serial, Sheets, bare, over, Base, a_ledger, a_card, Entry, parts, Entries, no_entry, one_entry, Ending, nothing, with_entries, Line, open_line, at_line, principal_line, statement_line, file_line, strike_line, book_line}
 use Rattle.job.specs.Limits.{gate_limit, small_limit, standing_limit}
 use Rattle.job.specs.Numbers.{number, Number}
-use Rattle.job.specs.Operands.{Part, part, Triple, triple, on, counted, leading_number, closed, one, three}
+use Rattle.job.specs.Operands.{Part, part, triple, on, counted, leading_number, closed, one, three}
 use Rattle.job.specs.Words.{front, behind}
 use Rattle.job.proofs.Values.{number_from}
 

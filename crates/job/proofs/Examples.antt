@@ -2,7 +2,7 @@
 use Rattle.std.proofs.Common.{◌≡◌, [], ◌∷◌, codes, refl}
 use Rattle.job.specs.declared.unreadable.Unreadable.TheVariants.{UnknownCommand, MissingWord, ExtraWord, BadNumber, BadBook, BadEntry}
 use Rattle.job.specs.Books.{ledger, card, held}
-use Rattle.job.specs.Commands.{Heard, silent, unreadable, command, opens, turns, principal, statement, files, strikes, lists, reading}
+use Rattle.job.specs.Commands.{silent, unreadable, command, opens, turns, principal, files, lists, reading}
 use Rattle.job.specs.Lines.{lines}
 use Rattle.job.specs.Words.{words}
 

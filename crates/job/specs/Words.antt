@@ -10,7 +10,7 @@
 -- words l        all words of l, in order
 -- without b l    l without each b
 -- Proper w       w is not empty and holds no space
-use Rattle.std.specs.Prelude.{◌≡◌, ℕ, ◌<◌, cond, List, [], ◌∷◌, length, ◌==◌, ◌≢◌}
+use Rattle.std.specs.Prelude.{ℕ, ◌<◌, cond, List, [], ◌∷◌, length, ◌==◌, ◌≢◌}
 use Rattle.std.specs.List.{AllByRecursion as All}
 
 abbrev pub front : ℕ → List ℕ → List ℕ

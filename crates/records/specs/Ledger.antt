@@ -7,7 +7,7 @@
 -- SameBehind r s      r and s lend the same slice, of one length, and the records behind the first 1,024 are alike
 use Rattle.std.specs.Prelude.{◌≡◌, ℕ, ◌-◌, ◌<◌, ◌≤◌, min, List, length, Option, slice_index_or, refl}
 use Rattle.std.proofs.Common.{◌∙◌}
-use Rattle.std.specs.Borrow.{Bor, MutBor}
+use Rattle.std.specs.Borrow.{MutBor}
 use Rattle.book.specs.declared.entry.Entry.{Entry}
 use Rattle.book.specs.Live.{Orderly, blank}
 use Rattle.records.specs.Records.{held, Kept}

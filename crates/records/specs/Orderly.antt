@@ -1,7 +1,7 @@
 -- kept_orderly xs size n kept   what records in rising order hold is orderly, which a ledger's `orderly` cites
 -- held_none xs n s none         a serial that none of the first n records bears is not held
 -- held_bears xs n s e found     an entry held under a serial bears it
-use Rattle.std.specs.Prelude.{◌≡◌, ℕ, zero, suc, ◌<◌, List, Some, None, Option, ◌≢◌, slice_index_or, refl}
+use Rattle.std.specs.Prelude.{◌≡◌, ℕ, zero, suc, ◌<◌, List, Some, None, ◌≢◌, slice_index_or, refl}
 use Rattle.std.proofs.Common.{sym, ap, ◌∙◌, ⊎_elim, arith}
 use Rattle.std.proofs.lemmas.Bool.{eq-eqb, ne_eqb, cases_eq, cond-true, cond-false}
 use Rattle.book.specs.declared.entry.Entry.{Entry}

@@ -11,7 +11,7 @@
 -- fork b side              the fork of a line on the branch b, which keeps `side`
 -- back b f                 the branch cut back to the counts of the fork f, with the kept alternative added
 -- moved b fs e             what the effect e makes of the branch b with the forks fs
-use Rattle.std.specs.Prelude.{◌≡◌, ℕ, ◌+◌, List, [], ◌∷◌, ◌++◌, length, take}
+use Rattle.std.specs.Prelude.{ℕ, ◌+◌, List, [], ◌∷◌, ◌++◌, length, take}
 use Rattle.rules.specs.declared.branch.Fact.{Fact}
 use Rattle.rules.specs.declared.branch.Fork.{Fork}
 use Rattle.rules.specs.declared.branch.Link.{Link}

@@ -5,7 +5,7 @@
 -- if_true s x, if_false s x      x, if the sign is true, or false
 -- fits rule a b c v u            what a line of the rule does with what its operands cite, where the next two worlds would be v and u; nothing if the needs of the rule do not fit
 -- effect m                       the move m as an effect on a branch
-use Rattle.std.specs.Prelude.{ℕ, Bool, true, false, cond, ◌&&◌, ◌||◌, [], ◌∷◌, Some, None, Option, ◌==◌}
+use Rattle.std.specs.Prelude.{ℕ, Bool, cond, ◌&&◌, ◌||◌, [], ◌∷◌, Some, None, Option, ◌==◌}
 use Rattle.terms.specs.declared.row.PrincipalRow.{PrincipalRow}
 use Rattle.terms.specs.declared.row.PrincipalRow.TheVariants.{Atom, Both, Quoting}
 use Rattle.terms.specs.declared.row.StatementRow.{StatementRow}

@@ -1,14 +1,9 @@
 -- A line that the rules allow is walked to its effect.
-use Rattle.std.proofs.Common.{◌≡◌, ℕ, ◌+◌, ◌<◌, ◌≤◌, Bool, true, false, cond, ◌&&◌, ◌||◌, eqb, ltb, leb, List, [], ◌∷◌, ◌++◌, length, is_some, Some, None, Ok, Err, Option, Result, sym, refl, ap, ◌∙◌, subst, arith}
+use Rattle.std.proofs.Common.{◌≡◌, ℕ, ◌+◌, true, ◌&&◌, ◌||◌, eqb, ltb, is_some, Some, Ok, sym, refl, ap, ◌∙◌}
 use Rattle.std.specs.List.{slice_get}
 use Rattle.std.proofs.lemmas.Bool.{and_from, or_left, or_right, eq-eqb, lt-ltb, cond-true}
-use Rattle.terms.specs.declared.row.PrincipalRow.TheVariants.{Atom, Both, Quoting}
-use Rattle.terms.specs.declared.row.StatementRow.TheVariants.{Request, Not, And, Says, SpeaksFor}
 use Rattle.book.specs.declared.entry.Standing.{Standing}
 use Rattle.book.specs.declared.entry.Standing.TheVariants.{Rule, Saying}
-use Rattle.rules.specs.declared.branch.Side.{Side}
-use Rattle.rules.specs.declared.branch.Side.TheVariants as sides
-use Rattle.rules.specs.declared.branch.Sign.{Sign}
 use Rattle.rules.specs.declared.branch.Sign.TheVariants.{True, False}
 use Rattle.rules.specs.declared.line.Line.{Line}
 use Rattle.rules.specs.declared.line.Use.TheVariants.{Fact, Link, World, Row, Serial, Unused}
@@ -17,13 +12,12 @@ use Rattle.rules.specs.declared.moves.Move.{Move}
 use Rattle.rules.specs.declared.moves.Move.TheVariants.{AddFact, AddFacts, AddLink, Successor, Through, Apart, ForkFacts, ForkLinks, Close}
 use Rattle.rules.specs.declared.rule.Rule.{Rule as Code}
 use Rattle.rules.specs.declared.rule.Rule.TheVariants as codes
-use Rattle.rules.specs.declared.table.Places.{Places}
 use Rattle.rules.specs.declared.table.Shape.{Shape}
-use Rattle.rules.specs.Branches.{fact, link, other, Branch, Effect, adds, forks, closes}
+use Rattle.rules.specs.Branches.{fact, link, other, Branch, Effect}
 use Rattle.rules.specs.Fits.{effect}
 use Rattle.rules.specs.Shapes.{shape, shaped, takes}
-use Rattle.soundness.specs.Given.{Given, StatementIs, PrincipalIs, Live}
-use Rattle.soundness.specs.Rules.{line, HasFact, HasLink, Allows, cite_rule, cite_saying, by_not, and_true, and_false, says_true, says_false, speaks_for_true, speaks_for_false, both_linked, quoting_linked, into_both_left, into_both_right, into_quoting, facts_clash, links_clash}
+use Rattle.soundness.specs.Given.{Given, Live}
+use Rattle.soundness.specs.Rules.{Allows, cite_rule, cite_saying, by_not, and_true, and_false, says_true, says_false, speaks_for_true, speaks_for_false, both_linked, quoting_linked, into_both_left, into_both_right, into_quoting, facts_clash, links_clash}
 use Rattle.soundness.specs.Walking.{sizes, line_move, cites, cite_entry, cited}
 
 pub record Walks (g : Given) (b : Branch) (l : Line) (e : Effect) (n : ℕ) : Type 0 where

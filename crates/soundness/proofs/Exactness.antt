@@ -17,7 +17,7 @@ use Rattle.rules.specs.Shapes.{shaped, takes}
 use Rattle.soundness.specs.Given.{Given}
 use Rattle.soundness.specs.Rules.{Allows, Completes}
 use Rattle.soundness.specs.Walking.{Limits, Held, Within, ForksFit, Roomy, sizes, on, further, line_move, roomy, line_walked, lines_walked}
-use Rattle.soundness.specs.ProofFiles.{line_at, lines_from, lines_passed, Reading, proof_read, walked, ProofFile, Keeps}
+use Rattle.soundness.specs.ProofFiles.{line_at, lines_from, lines_passed, Reading, proof_read, walked, Keeps}
 use Rattle.soundness.specs.Laws.{PassesExactly}
 use Rattle.soundness.proofs.Allowed.{allowed_walks}
 use Rattle.soundness.proofs.Inversions.{some_same, ok_same, err_ok, on_some, further_ok, cond_ok}

@@ -1,9 +1,7 @@
 -- What the walk holds stays within the limits just where the lines find their places.
-use Rattle.std.proofs.Common.{◌≡◌, ℕ, zero, suc, ◌+◌, ◌*◌, ◌<◌, ◌≤◌, Bool, true, false, cond, ◌&&◌, eqb, ltb, leb, List, [], ◌∷◌, ◌++◌, length, take, Some, None, Ok, Err, Result, sym, refl, ap, ◌∙◌, subst, arith}
-use Rattle.std.specs.List.{slice_get}
+use Rattle.std.proofs.Common.{◌≡◌, ℕ, ◌+◌, ◌≤◌, true, leb, List, [], ◌∷◌, length, take, arith}
 use Rattle.std.proofs.lemmas.List.{length-append, length_push, length-take}
-use Rattle.std.proofs.lemmas.Bool.{and_parts, and_from, leb-true, le-leb, cond-true}
-use Rattle.denials.specs.Denials.{denied}
+use Rattle.std.proofs.lemmas.Bool.{and_parts, and_from, leb-true, le-leb}
 use Rattle.rules.specs.declared.branch.Fact.{Fact}
 use Rattle.rules.specs.declared.branch.Fork.{Fork}
 use Rattle.rules.specs.declared.branch.Link.{Link}
@@ -14,12 +12,7 @@ use Rattle.rules.specs.declared.branch.Side.TheVariants as sides
 use Rattle.rules.specs.declared.table.Places.{Places}
 use Rattle.rules.specs.Branches.{Branch, branch, with_side, closed, adds, Progress, moved}
 use Rattle.rules.specs.Fits.{effect}
-use Rattle.rules.specs.Shapes.{shaped, takes}
-use Rattle.soundness.specs.Given.{Given}
-use Rattle.soundness.specs.Rules.{Allows, Completes}
 use Rattle.soundness.specs.Walking.{Limits, Held, Within, SideFits, ForksFit, Roomy, sizes, Room, roomy}
-use Rattle.soundness.proofs.Inversions.{some_same, err_ok, on_some, further_ok, cond_ok}
-use Rattle.soundness.proofs.Walked.{walked_allows}
 
 -- the test for free places, part by part
 pub room_parts : (lim : Limits) (b : Branch) (fs : List Fork) (p : Places) → roomy lim b fs p ≡ true → Room lim b fs p

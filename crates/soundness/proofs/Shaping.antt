@@ -1,5 +1,5 @@
 -- The shape of a line tells its code and its rule.
-use Rattle.std.proofs.Common.{◌≡◌, ℕ, zero, suc, ◌+◌, ◌-◌, Bool, true, false, cond, ◌&&◌, eqb, [], ◌∷◌, Some, None, Option, sym, refl, ap, ◌∙◌, arith}
+use Rattle.std.proofs.Common.{◌≡◌, ℕ, zero, suc, ◌+◌, ◌-◌, Bool, true, false, cond, ◌&&◌, eqb, Some, None, Option, sym, refl, ap, ◌∙◌, arith}
 use Rattle.std.specs.List.{slice_get}
 use Rattle.std.proofs.lemmas.Bool.{and_parts, eqb-false}
 use Rattle.rules.specs.declared.line.Line.{Line}
@@ -8,7 +8,6 @@ use Rattle.rules.specs.declared.rule.Rule.{Rule}
 use Rattle.rules.specs.declared.rule.Rule.TheVariants.{CiteRule, CiteSaying, Not, AndTrue, AndFalse, SaysTrue, SaysFalse, SpeaksForTrue, SpeaksForFalse, BothLinked, QuotingLinked, IntoBoth, IntoQuoting, FactsClash, LinksClash}
 use Rattle.rules.specs.declared.table.Shape.{Shape}
 use Rattle.rules.specs.Shapes.{shape, shapes, shape_numbered, idle, if_idle, shaped}
-use Rattle.soundness.specs.Rules.{line}
 use Rattle.soundness.proofs.Inversions.{none_some}
 
 abbrev pub code : Rule → ℕ

@@ -1,8 +1,7 @@
 -- A line that is walked is allowed by the rules.
-use Rattle.std.proofs.Common.{◌≡◌, ℕ, ◌+◌, ◌<◌, Bool, true, false, cond, ◌&&◌, ◌||◌, eqb, ◌⊎◌, List, [], ◌∷◌, is_some, Some, None, Ok, Option, sym, refl, ap, ◌∙◌, subst, inl, inr, arith}
+use Rattle.std.proofs.Common.{◌≡◌, ℕ, ◌+◌, Bool, true, false, cond, ◌&&◌, eqb, is_some, Some, None, Ok, Option, sym, refl, ap, ◌∙◌, subst, inl, inr, arith}
 use Rattle.std.specs.List.{slice_get}
-use Rattle.std.specs.Option.{ok_or}
-use Rattle.std.proofs.lemmas.Bool.{and_parts, or_cases, eqb-true, cases_Bool}
+use Rattle.std.proofs.lemmas.Bool.{and_parts, or_cases, eqb-true}
 use Rattle.denials.specs.Denials.{denied}
 use Rattle.terms.specs.declared.row.PrincipalRow.{PrincipalRow}
 use Rattle.terms.specs.declared.row.StatementRow.{StatementRow}
@@ -22,12 +21,12 @@ use Rattle.rules.specs.declared.moves.Operand.TheVariants as operands
 use Rattle.rules.specs.declared.rule.Rule.{Rule as Code}
 use Rattle.rules.specs.declared.rule.Rule.TheVariants as codes
 use Rattle.rules.specs.declared.table.Shape.{Shape}
-use Rattle.rules.specs.Branches.{fact, link, Branch, Effect}
+use Rattle.rules.specs.Branches.{fact, link, Branch}
 use Rattle.rules.specs.Fits.{fits, effect}
 use Rattle.rules.specs.Shapes.{shaped}
-use Rattle.soundness.specs.Given.{Given, StatementIs, Live}
+use Rattle.soundness.specs.Given.{Given, Live}
 use Rattle.soundness.specs.Rules.{line, HasFact, HasLink, Allows, cite_rule, cite_saying, by_not, and_true, and_false, says_true, says_false, speaks_for_true, speaks_for_false, both_linked, quoting_linked, into_both_left, into_both_right, into_quoting, facts_clash, links_clash}
-use Rattle.soundness.specs.Walking.{on, operand, cites, cite_entry, cited, line_move}
+use Rattle.soundness.specs.Walking.{operand, cites, cite_entry, cited, line_move}
 use Rattle.soundness.proofs.Inversions.{none_some, some_same, on_some, ok_or_ok, if_some, true_some, false_some, row_some, fact_some, link_some, named_some, not_some, and_some, says_some, speaks_some, both_some, quoting_some, fact_cited, link_cited, row_cited, world_cited}
 use Rattle.soundness.proofs.Shaping.{code, shape_of, Shaped, shaped_so}
 

@@ -10,7 +10,6 @@ use Rattle.std.specs.List.{slice_get}
 use Rattle.terms.specs.declared.row.PrincipalRow.TheVariants.{Both, Quoting}
 use Rattle.terms.specs.declared.row.StatementRow.TheVariants.{Not, And, Says, SpeaksFor}
 use Rattle.book.specs.declared.entry.Standing.TheVariants.{Rule, Saying}
-use Rattle.rules.specs.declared.branch.Fork.{Fork}
 use Rattle.rules.specs.declared.branch.Side.TheVariants as sides
 use Rattle.rules.specs.declared.branch.Sign.{Sign}
 use Rattle.rules.specs.declared.branch.Sign.TheVariants.{True, False}

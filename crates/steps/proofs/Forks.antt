@@ -1,7 +1,7 @@
 -- The latest fork, and the place for the alternative that it keeps.
 use Rattle.std.proofs.Common.{◌≡◌, ℕ, ◌+◌, ◌-◌, ◌<◌, ◌≤◌, List, [], ◌∷◌, ◌++◌, reverse, length, get_or, take, Some, None, Option, sym, refl, ap, ◌∙◌, arith, MatchOption}
 use Rattle.std.specs.List.{slice_get}
-use Rattle.std.proofs.lemmas.List.{reverse-append, take_more, take_all, nil_from_length, length-take}
+use Rattle.std.proofs.lemmas.List.{reverse-append, take_more, take_all}
 use Rattle.std.proofs.lemmas.Option.{slice_get-get_or}
 use Rattle.trail.specs.declared.trail.Trail.{Trail}
 use Rattle.trail.specs.Trails.{entries_of, capacity_of}

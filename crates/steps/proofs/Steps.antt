@@ -1,5 +1,5 @@
 -- One line: its move finds room where the places of its rule are free, and every fork keeps its place.
-use Rattle.std.proofs.Common.{◌≡◌, ℕ, ◌≤◌, min, Bool, true, length, Some, Ok, sym, refl, ap, ◌∙◌, subst, arith}
+use Rattle.std.proofs.Common.{◌≡◌, ℕ, ◌≤◌, min, Bool, true, Some, Ok, sym, ap, ◌∙◌, subst, arith}
 use Rattle.std.proofs.lemmas.List.{length-reverse}
 use Rattle.trail.specs.declared.trail.Trail.{Trail}
 use Rattle.trail.specs.Trails.{entries_of}
@@ -13,7 +13,7 @@ use Rattle.rules.specs.Branches.{blank_fact, blank_link, blank_fork, moved}
 use Rattle.rules.specs.Fits.{effect}
 use Rattle.rules.specs.Shapes.{shaped, takes}
 use Rattle.soundness.specs.Given.{Given}
-use Rattle.soundness.specs.Walking.{Limits, Held, ForksFit, Roomy, Room, roomy, sizes, line_move, line_walked}
+use Rattle.soundness.specs.Walking.{Held, ForksFit, Roomy, Room, roomy, sizes, line_move, line_walked}
 use Rattle.soundness.proofs.Exactness.{takes_up, moving}
 use Rattle.soundness.proofs.Rooms.{room_parts, fine_after}
 use Rattle.steps.specs.Tables.{SoundTables, SameTables, limits_of, branch_of, forks_of, progress_of}

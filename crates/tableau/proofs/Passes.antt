@@ -1,5 +1,5 @@
 -- What an answer of the walk means: the file keeps the rules, and what it asks for follows.
-use Rattle.std.proofs.Common.{◌≡◌, ℕ, ◌≤◌, List, Ok, Result, sym, ◌∙◌, arith}
+use Rattle.std.proofs.Common.{◌≡◌, ℕ, ◌≤◌, List, Result, sym, ◌∙◌}
 use Rattle.denials.specs.declared.denial.Denial.{Denial}
 use Rattle.terms.specs.Laws.{SoundRows}
 use Rattle.soundness.specs.Given.{Given}

@@ -1,8 +1,7 @@
 -- Naming, in the subject's words: what it answers, that it adds at most one row, and that naming again changes nothing.
-use Rattle.std.proofs.Common.{◌≡◌, ℕ, zero, suc, ◌+◌, ◌<◌, ◌≤◌, Bool, true, false, cond, ◌&&◌, eqb, ltb, ◌⊎◌, List, [], ◌∷◌, ◌++◌, length, IfOk, Some, None, Ok, Err, Option, Result, sym, refl, ap, ◌∙◌, subst, inl, inr, arith, ltb-true, lt-ltb, eqb-true}
+use Rattle.std.proofs.Common.{◌≡◌, ℕ, suc, ◌+◌, ◌≤◌, Bool, true, false, cond, ◌&&◌, eqb, ltb, List, [], ◌∷◌, ◌++◌, length, IfOk, Some, None, Ok, Err, Option, Result, sym, refl, ap, ◌∙◌, inl, inr, arith, ltb-true, lt-ltb, eqb-true}
 use Rattle.std.specs.List.{slice_get}
 use Rattle.std.proofs.lemmas.Bool.{and_parts, and_from, cond_both}
-use Rattle.std.proofs.lemmas.Result.{MatchResult-at_ok}
 use Rattle.std.proofs.lemmas.List.{length_push}
 use Rattle.denials.specs.declared.denial.Denial.{Denial}
 use Rattle.terms.specs.declared.row.PrincipalRow.{PrincipalRow}
@@ -10,11 +9,11 @@ use Rattle.terms.specs.declared.row.PrincipalRow.TheVariants.{Atom, Both, Quotin
 use Rattle.terms.specs.declared.row.StatementRow.{StatementRow}
 use Rattle.terms.specs.declared.row.StatementRow.TheVariants.{Request, Not, And, Says, SpeaksFor}
 use Rattle.denials.specs.Denials.{denied}
-use Rattle.terms.specs.Rows.{Determined, principal_form, principal_x, principal_y, principal_determined, statement_form, statement_x, statement_y, statement_determined}
-use Rattle.terms.specs.Naming.{same, position, further, put_answer, put_after, answered, left, with_operands, read_principal, read_statement, principal_answer, principal_after, statement_answer, statement_after}
+use Rattle.terms.specs.Rows.{Determined, principal_form, principal_x, principal_y, statement_form, statement_x, statement_y}
+use Rattle.terms.specs.Naming.{same, position, further, put_answer, put_after, answered, left, with_operands, read_principal, read_statement}
 use Rattle.terms.specs.Laws.{OneMore, Answered}
 use Rattle.terms.proofs.Nths.{nth_last}
-use Rattle.terms.proofs.TableLaws.{same_refl, same_is, position_step, fitting, both_below, first_below}
+use Rattle.terms.proofs.TableLaws.{same_refl, same_is, position_step, fitting}
 
 -- where the search found a row, it passes the test
 further_some : (o : Option ℕ) (n : ℕ) → further 1 o ≡ Some n → (m : ℕ) × ((o ≡ Some m) × (n ≡ suc m))

@@ -1,10 +1,10 @@
 -- Every finite structure is settled.
-use Rattle.std.proofs.Common.{◌≡◌, ℕ, zero, suc, ◌<◌, ◌≤◌, Bool, true, false, ◌⊎◌, sym, refl, ap, ◌∙◌, subst, inl, inr, arith}
+use Rattle.std.proofs.Common.{◌≡◌, ℕ, zero, suc, ◌<◌, ◌≤◌, Bool, true, false, ◌⊎◌, refl, subst, inl, inr, arith}
 use native.Mathlib.Bridge.{le_prop}
 use mathlib.Core.HLevel.{Σ_prop_path}
-use Rattle.std.proofs.lemmas.Bool.{cases_lt, cases_order, false≢true}
+use Rattle.std.proofs.lemmas.Bool.{cases_lt, false≢true}
 use Rattle.terms.specs.Written.{Principal, atom, both, quoting, Statement, request, not, and, says, speaks_for}
-use Rattle.terms.specs.Truth.{Structure, Pair, Holds, Settled, Finite, World, structure, FiniteStructuresAreSettled}
+use Rattle.terms.specs.Truth.{Pair, Holds, Finite, World, structure, FiniteStructuresAreSettled}
 
 decide_true : (b : Bool) → Dec (b ≡ true)
 decide_true true = yes refl

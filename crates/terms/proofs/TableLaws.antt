@@ -1,9 +1,7 @@
 -- Putting a row in keeps what always holds of a table.
-use Rattle.std.proofs.Common.{◌≡◌, ℕ, zero, suc, ◌+◌, ◌<◌, ◌≤◌, max, Bool, true, false, cond, ◌&&◌, eqb, ltb, ◌⊎◌, List, [], ◌∷◌, ◌++◌, length, IfOk, Some, None, Ok, Err, Option, Result, sym, refl, ap, ◌∙◌, subst, inl, inr, ⊎_elim, arith, ltb-true, eq-eqb, eqb-true}
+use Rattle.std.proofs.Common.{◌≡◌, ℕ, zero, suc, ◌<◌, ◌≤◌, Bool, true, false, cond, ◌&&◌, eqb, ltb, List, [], ◌∷◌, ◌++◌, length, IfOk, Some, None, Ok, Err, Option, Result, sym, refl, ap, ◌∙◌, subst, inl, inr, arith, ltb-true, eq-eqb, eqb-true}
 use Rattle.std.specs.List.{slice_get}
-use Rattle.std.proofs.lemmas.Bool.{and_parts, and_from, cond_both, cases_Bool, true≢false, cases_lt}
-use Rattle.std.proofs.lemmas.Result.{MatchResult-at_ok}
-use Rattle.std.proofs.lemmas.List.{length_push}
+use Rattle.std.proofs.lemmas.Bool.{and_parts, and_from, cond_both, true≢false}
 use Rattle.denials.specs.declared.denial.Denial.{Denial}
 use Rattle.terms.specs.declared.row.PrincipalRow.{PrincipalRow}
 use Rattle.terms.specs.declared.row.PrincipalRow.TheVariants.{Atom, Both, Quoting}
@@ -13,7 +11,7 @@ use Rattle.denials.specs.Denials.{denied}
 use Rattle.terms.specs.Rows.{Determined}
 use Rattle.terms.specs.Naming.{same, position, further, put_after, with_operands, read_principal, read_statement}
 use Rattle.terms.specs.Tables.{Distinct, Every, principal_needs, statement_needs, principals_needed}
-use Rattle.terms.proofs.Nths.{nth_below, nth_some, nth_append_left, nth_last, nth_push}
+use Rattle.terms.proofs.Nths.{nth_below, nth_some, nth_push}
 
 -- a row has the same form and operands as itself, and as no other
 pub same_refl : {R : Type 0} (form x y : R → ℕ) (r : R) → same form x y r r ≡ true

@@ -1,15 +1,14 @@
 -- What rows write out to: a row writes out by its own parts, one more row leaves the earlier ones as they are, and rows that write out alike are one.
-use Rattle.std.proofs.Common.{◌≡◌, ℕ, zero, suc, ◌+◌, ◌<◌, ◌≤◌, max, List, [], ◌∷◌, ◌++◌, length, get_or, Some, None, Option, unwrap_or, sym, refl, ap, ◌∙◌, subst, arith}
+use Rattle.std.proofs.Common.{◌≡◌, ℕ, zero, suc, ◌+◌, ◌<◌, ◌≤◌, List, [], ◌∷◌, ◌++◌, length, get_or, Some, unwrap_or, sym, refl, ap, ◌∙◌, arith}
 use Rattle.std.specs.List.{slice_get}
-use Rattle.std.proofs.lemmas.List.{length_push, length-append}
-use Rattle.std.proofs.lemmas.Option.{slice_get-get_or}
+use Rattle.std.proofs.lemmas.List.{length_push}
 use Rattle.terms.specs.declared.row.PrincipalRow.{PrincipalRow}
 use Rattle.terms.specs.declared.row.PrincipalRow.TheVariants.{Atom, Both, Quoting}
 use Rattle.terms.specs.declared.row.StatementRow.{StatementRow}
 use Rattle.terms.specs.declared.row.StatementRow.TheVariants.{Request, Not, And, Says, SpeaksFor}
-use Rattle.terms.specs.Tables.{Distinct, PartsEarlier, PartsNamed, principal_needs, statement_needs, principals_needed}
-use Rattle.terms.specs.Written.{Principal, atom, both, quoting, Statement, request, not, and, says, speaks_for, principal_of, statement_of, write_out, principals_written, statements_written}
-use Rattle.terms.proofs.Nths.{nth_below, nth_some, nth_append_left, nth_last}
+use Rattle.terms.specs.Tables.{PartsEarlier, PartsNamed, principal_needs, statement_needs, principals_needed}
+use Rattle.terms.specs.Written.{Principal, atom, Statement, request, not, says, principal_of, statement_of, write_out, principals_written, statements_written}
+use Rattle.terms.proofs.Nths.{nth_append_left, nth_last}
 
 get_or_by_nth : {X : Type 0} (xs : List X) (n : ℕ) (d : X) → get_or xs n d ≡ unwrap_or (slice_get xs n) d
 get_or_by_nth [] n d = refl

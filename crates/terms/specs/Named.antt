@@ -1,7 +1,7 @@
 -- What the tables of a gate hold.
 --
 -- rows_of n          the named rows of both tables
-use Rattle.std.specs.Prelude.{◌≡◌, ℕ, take}
+use Rattle.std.specs.Prelude.{take}
 use Rattle.terms.specs.declared.names.Names.{Names}
 use Rattle.terms.specs.Written.{Rows}
 

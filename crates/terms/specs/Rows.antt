@@ -3,8 +3,8 @@
 -- principal_form r, principal_x r, principal_y r    the form and the operands of a principal's row; an unused operand is 0
 -- statement_form r, statement_x r, statement_y r    the same of a statement's row
 -- Determined form x y                               rows with the same form and operands are the same row
-use Rattle.std.specs.Prelude.{◌≡◌, ℕ, Bool, true, false, ◌&&◌, eqb, refl}
-use Rattle.std.proofs.Common.{ap, arith}
+use Rattle.std.specs.Prelude.{◌≡◌, ℕ}
+use Rattle.std.proofs.Common.{arith}
 use Rattle.terms.specs.declared.row.PrincipalRow.{PrincipalRow}
 use Rattle.terms.specs.declared.row.PrincipalRow.TheVariants.{Atom, Both, Quoting}
 use Rattle.terms.specs.declared.row.StatementRow.{StatementRow}

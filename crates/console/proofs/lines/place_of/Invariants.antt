@@ -1,5 +1,5 @@
-use Rattle.std.proofs.Common.{◌≡◌, eqb, drop}
-use Rattle.terms.specs.Naming.{position, further}
+use Rattle.std.proofs.Common.{◌≡◌, drop}
+use Rattle.terms.specs.Naming.{further}
 use Rattle.console.specs.Desks.{place_of}
 use Rattle.console.proofs.lines.place_of.Given as goal
 

@@ -1,6 +1,6 @@
-use Rattle.std.proofs.Common.{◌≡◌, ℕ, suc, ◌-◌, ◌<◌, ◌≤◌, List, [], ◌∷◌, ◌++◌, vec_items, sym, ap, ◌∙◌, arith}
+use Rattle.std.proofs.Common.{◌≡◌, suc, ◌-◌, [], ◌∷◌, ◌++◌, vec_items, sym, ap, ◌∙◌, arith}
 use Rattle.std.proofs.lemmas.List.{append_assoc, append-nil}
-use Rattle.gate.specs.Listings.{gathered, all_live}
+use Rattle.gate.specs.Listings.{gathered}
 use Rattle.gate.proofs.Gathering.{gathered_next, gathered_none, next_follows, next_none}
 use Rattle.console.proofs.listing.live_entries.Goals as goal
 

@@ -1,7 +1,7 @@
-use Rattle.std.proofs.Common.{◌≡◌, ◌≤◌, min, length, sym, ap, subst, arith}
+use Rattle.std.proofs.Common.{◌≤◌, min, length, sym, ap, subst, arith}
 use Rattle.std.proofs.lemmas.List.{length-take}
 use Rattle.trail.specs.Trails.{entries_of}
-use Rattle.soundness.specs.Walking.{ForkFits, ForksFit}
+use Rattle.soundness.specs.Walking.{ForksFit}
 use Rattle.steps.specs.Tables.{limits_of}
 use Rattle.steps.proofs.Forks.{room_for_kept}
 use Rattle.steps.proofs.moving.close.Goals as goal

@@ -1,7 +1,6 @@
-use Rattle.std.proofs.Common.{◌≡◌, reverse, length, sym, ap, ◌∙◌, ap₂, arith}
+use Rattle.std.proofs.Common.{◌≡◌, reverse, ap, ◌∙◌, ap₂, arith}
 use Rattle.std.proofs.lemmas.List.{length-reverse}
 use Rattle.trail.specs.Trails.{entries_of}
-use Rattle.rules.specs.declared.branch.Fork.{Fork}
 use Rattle.rules.specs.Branches.{fork, going}
 use Rattle.steps.specs.Tables.{limits_of, branch_of, forks_of}
 use Rattle.steps.proofs.Forks.{room_for_fork, latest_is}

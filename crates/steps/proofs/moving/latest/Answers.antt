@@ -1,4 +1,4 @@
-use Rattle.std.proofs.Common.{◌≡◌, ◌-◌, [], ◌∷◌, reverse, length, take, sym, refl, ap, ◌∙◌, subst, MatchOption}
+use Rattle.std.proofs.Common.{◌≡◌, ◌-◌, [], ◌∷◌, reverse, length, take, sym, ap, ◌∙◌, subst, MatchOption}
 use Rattle.trail.specs.Trails.{entries_of}
 use Rattle.steps.proofs.Forks.{latest_of}
 use Rattle.steps.proofs.moving.latest.Goals as goal

@@ -1,9 +1,9 @@
-use Rattle.std.proofs.Common.{◌≡◌, ◌≤◌, true, Some, Ok, sym, refl, ap, ◌∙◌, subst}
+use Rattle.std.proofs.Common.{◌≡◌, true, sym, refl, ◌∙◌, subst}
 use Rattle.terms.specs.Named.{rows_of}
 use Rattle.rules.specs.Fits.{effect}
-use Rattle.rules.specs.Shapes.{shaped, takes}
+use Rattle.rules.specs.Shapes.{takes}
 use Rattle.soundness.specs.Given.{given}
-use Rattle.soundness.specs.Walking.{ForksFit, Roomy, Room, roomy, sizes, line_move}
+use Rattle.soundness.specs.Walking.{ForksFit, Room, roomy, sizes}
 use Rattle.steps.specs.Tables.{SoundTables, limits_of, branch_of, forks_of}
 use Rattle.steps.proofs.Steps.{for_same, room_to_move, stepped}
 use Rattle.steps.proofs.stepping.step.Goals as goal

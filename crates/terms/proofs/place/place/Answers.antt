@@ -1,4 +1,4 @@
-use Rattle.std.proofs.Common.{◌≡◌, ◌<◌, ◌≤◌, length, take, Some, None, sym, ap, arith, rules}
+use Rattle.std.proofs.Common.{◌≡◌, length, take, Some, None, sym, ap, arith, rules}
 use native.Mathlib.Nat.{sub-zero}
 use borrow.Author.Rules.{scaled_Fits}
 use Rattle.std.proofs.lemmas.List.{length-take-le}

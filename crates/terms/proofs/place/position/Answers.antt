@@ -1,4 +1,4 @@
-use Rattle.std.proofs.Common.{sym, ◌∙◌, arith}
+use Rattle.std.proofs.Common.{sym}
 use Rattle.terms.specs.Naming.{same}
 use Rattle.terms.proofs.Positions.{found_here, not_here, found_nowhere}
 use Rattle.terms.proofs.place.position.Goals as goal

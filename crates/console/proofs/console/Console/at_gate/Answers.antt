@@ -1,10 +1,10 @@
-use Rattle.std.proofs.Common.{◌≡◌, ◌<◌, map, length, set, vec_items, Option, sym, refl, ap, ◌∙◌, subst, arith}
+use Rattle.std.proofs.Common.{map, set, vec_items, Option, sym, refl, ap, ◌∙◌, subst, arith}
 use Rattle.std.proofs.lemmas.List.{length-map, map-set}
 use Rattle.std.proofs.lemmas.Option.{slice_get_past}
 use Rattle.gate.specs.State.{State}
 use Rattle.console.specs.declared.answer.Fault.TheVariants.{NoGate}
 use Rattle.console.specs.Replies.{unreadable}
-use Rattle.console.specs.Deeds.{reply, deed_left}
+use Rattle.console.specs.Deeds.{reply}
 use Rattle.console.specs.Desks.{desk, desk_of, AtState}
 use Rattle.console.specs.Piles.{pile_state}
 use Rattle.console.proofs.DeskLaws.{sound_set, nth_map_some, nth_read_at}

@@ -1,4 +1,4 @@
-use Rattle.std.proofs.Common.{◌≡◌, vec_items, sym, ap, ◌∙◌}
+use Rattle.std.proofs.Common.{vec_items, sym, ap, ◌∙◌}
 use Rattle.console.specs.Desks.{desk_of, place_of, turn_to, turned_to}
 use Rattle.console.proofs.DeskLaws.{place_on_desk}
 use Rattle.console.proofs.console.Console.turn.Goals as goal

@@ -1,4 +1,4 @@
-use Rattle.std.proofs.Common.{◌≡◌, length, take, sym, ap, ◌∙◌, arith}
+use Rattle.std.proofs.Common.{◌≡◌, length, take, ap, arith}
 use Rattle.std.proofs.lemmas.List.{length-take-le}
 use Rattle.terms.specs.Named.{rows_of}
 use Rattle.terms.proofs.Sound.{rows_sound, principal_named_sound, principal_lawful}

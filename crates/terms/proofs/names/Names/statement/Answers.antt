@@ -1,8 +1,7 @@
-use Rattle.std.proofs.Common.{◌≡◌, length, take, sym, ap, ◌∙◌, subst, arith}
+use Rattle.std.proofs.Common.{◌≡◌, length, take, sym, ap, ◌∙◌, arith}
 use Rattle.std.specs.List.{slice_get}
 use Rattle.std.proofs.lemmas.List.{length-take-le}
 use Rattle.terms.specs.Naming.{statement_answer, statement_after}
-use Rattle.terms.specs.Tables.{PartsNamed, principals_needed}
 use Rattle.terms.specs.Named.{rows_of}
 use Rattle.terms.proofs.Sound.{rows_sound, statement_named_sound, statement_lawful}
 use Rattle.terms.proofs.names.Names.statement.Goals as goal

@@ -1,7 +1,6 @@
-use Rattle.std.proofs.Common.{◌≡◌, ◌≤◌, length, take, sym, refl, ap, ◌∙◌, subst, arith}
+use Rattle.std.proofs.Common.{◌≤◌, length, take, sym, refl, ◌∙◌, subst, arith}
 use Rattle.std.proofs.lemmas.Result.{MatchResult-at_ok}
 use Rattle.terms.specs.Rows.{principal_form, principal_x, principal_y}
-use Rattle.terms.specs.Naming.{read_principal}
 use Rattle.terms.specs.Tables.{Distinct, PartsEarlier, principal_needs}
 use Rattle.terms.proofs.TableLaws.{distinct_put, every_put, read_principal_needs}
 use Rattle.terms.proofs.principals.Principals.name.Goals as goal

@@ -1,4 +1,4 @@
-use Rattle.std.proofs.Common.{◌≡◌, ◌≤◌, length, take, sym, refl, ap, ◌∙◌, subst, arith}
+use Rattle.std.proofs.Common.{◌≤◌, length, take, sym, refl, ◌∙◌, subst, arith}
 use Rattle.std.proofs.lemmas.Result.{MatchResult-at_ok}
 use Rattle.terms.specs.Rows.{statement_form, statement_x, statement_y}
 use Rattle.terms.specs.Tables.{Distinct, PartsEarlier, statement_needs}

@@ -1,4 +1,4 @@
-use Rattle.std.proofs.Common.{◌≡◌, sym, refl, ◌∙◌, arith}
+use Rattle.std.proofs.Common.{sym, refl, arith}
 use Rattle.std.proofs.lemmas.List.{take_all, length-take-le}
 use Rattle.trail.proofs.Clearing.{cut_sound, cut_entries}
 use Rattle.trail.proofs.trail.Trail.cut.Goals as goal
