@@ -1,6 +1,6 @@
 -- A line that says a command is read as that command. Assumes nothing.
 use Rattle.std.proofs.Common.{◌≡◌, ℕ, ◌≤◌, true, false, cond, eqb, List, [], ◌∷◌, ◌++◌, length, Some, None, Ok, Err, codes, Option, Result, refl, ap, ◌∙◌, subst, ⊎_elim, append_assoc, arith}
-use Rattle.std.specs.List.{AllByRecursion as All}
+use Rattle.std.specs.List.{AllByRecursion}
 use Rattle.std.specs.Str.{bytes_eq}
 use Rattle.std.proofs.lemmas.Slice.Eq.{bytes_eq-Decides}
 use Rattle.std.proofs.lemmas.Bool.{cases_Bool, cond-true, cond-false, ne_eqb}
@@ -36,7 +36,7 @@ not_over : {limit n : ℕ} {w : List ℕ} → Number limit w n → bytes_eq w (c
 not_over {limit} {n} {w} h =
     ⊎_elim
     (λ e.
-    let D : List ℕ → Type 0 = λ v. All (λ c. (48 ≤ c) × (c ≤ 57)) v in
+    let D : List ℕ → Type 0 = λ v. AllByRecursion (λ c. (48 ≤ c) × (c ≤ 57)) v in
     let d = subst D ((bytes_eq-Decides w (codes "over")).0 e) h.decimal in
     absurd (omega (arith, d.0.1)))
     (λ e. e)
@@ -90,11 +90,11 @@ base_bare a_card after = refl
 -- entries
 
 -- digits hold no colon
-front_digits : (s x : List ℕ) → All (λ c. (48 ≤ c) × (c ≤ 57)) s → front 58 (s ++ 58 ∷ x) ≡ s
+front_digits : (s x : List ℕ) → AllByRecursion (λ c. (48 ≤ c) × (c ≤ 57)) s → front 58 (s ++ 58 ∷ x) ≡ s
 front_digits [] x d = refl
 front_digits (c ∷ s) x d = cond-false _ _ _ (ne_eqb c 58 (λ e. omega (arith, d.0.1))) ∙ ap (λ l. c ∷ l) (front_digits s x d.1)
 
-behind_digits : (s x : List ℕ) → All (λ c. (48 ≤ c) × (c ≤ 57)) s → behind 58 (s ++ 58 ∷ x) ≡ x
+behind_digits : (s x : List ℕ) → AllByRecursion (λ c. (48 ≤ c) × (c ≤ 57)) s → behind 58 (s ++ 58 ∷ x) ≡ x
 behind_digits [] x d = refl
 behind_digits (c ∷ s) x d = cond-false _ _ _ (ne_eqb c 58 (λ e. omega (arith, d.0.1))) ∙ behind_digits s x d.1
 

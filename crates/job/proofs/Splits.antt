@@ -1,6 +1,6 @@
 -- Splitting a list at a byte, step by step. Assumes nothing.
 use Rattle.std.proofs.Common.{◌≡◌, ℕ, ◌+◌, ◌-◌, ◌<◌, ◌≤◌, true, false, cond, eqb, ◌⊎◌, List, [], ◌∷◌, ◌++◌, length, get_or, take, drop, sym, refl, ap, ◌∙◌, subst, inl, inr, append_assoc, append-nil, arith}
-use Rattle.std.specs.List.{flat_map, AllByRecursion as All}
+use Rattle.std.specs.List.{flat_map, AllByRecursion}
 use Rattle.std.proofs.lemmas.List.{at_drop_more, at_drop_all, drop_more, drop_all, take_more, take_all, take_rest, nil_from_length}
 use Rattle.std.proofs.lemmas.Bool.{eqb-true, eqb-false, eq-eqb, ne_eqb, cond-true, cond-false, cond_both}
 use Rattle.job.specs.Words.{front, behind, onto, split, keep, filled, trimmed, word, rest, words, without, Lacks, Proper}
@@ -109,26 +109,26 @@ joined_filled (p ∷ ps) = joined_keep p (filled ps) ∙ ap (λ l. p ++ l) (join
 pub words_whole : (l : List ℕ) → flat_map (λ w. w) (words l) ≡ without 32 l
 words_whole l = joined_filled (split 32 l) ∙ joined_split 32 l
 
-lacks_onto : (b x : ℕ) (ps : List (List ℕ)) → (x ≡ b → ⊥) → All (Lacks b) ps → All (Lacks b) (onto x ps)
+lacks_onto : (b x : ℕ) (ps : List (List ℕ)) → (x ≡ b → ⊥) → AllByRecursion (Lacks b) ps → AllByRecursion (Lacks b) (onto x ps)
 lacks_onto b x [] n h = ((n, tt), tt)
 lacks_onto b x (p ∷ ps) n h = ((n, h.0), h.1)
 
-pub split_lacks : (b : ℕ) (l : List ℕ) → All (Lacks b) (split b l)
+pub split_lacks : (b : ℕ) (l : List ℕ) → AllByRecursion (Lacks b) (split b l)
 split_lacks b [] = tt
 split_lacks b (x ∷ xs) =
-    cond_both (eqb x b) ([] ∷ split b xs) (onto x (split b xs)) (All (Lacks b))
+    cond_both (eqb x b) ([] ∷ split b xs) (onto x (split b xs)) (AllByRecursion (Lacks b))
     (λ e. (tt, split_lacks b xs))
     (λ e. lacks_onto b x (split b xs) (eqb-false x b e) (split_lacks b xs))
 
-proper_keep : (w : List ℕ) (ws : List (List ℕ)) → Lacks 32 w → All Proper ws → All Proper (keep w ws)
+proper_keep : (w : List ℕ) (ws : List (List ℕ)) → Lacks 32 w → AllByRecursion Proper ws → AllByRecursion Proper (keep w ws)
 proper_keep [] ws h k = k
 proper_keep (x ∷ xs) ws h k = ((omega arith, h), k)
 
-proper_filled : (ps : List (List ℕ)) → All (Lacks 32) ps → All Proper (filled ps)
+proper_filled : (ps : List (List ℕ)) → AllByRecursion (Lacks 32) ps → AllByRecursion Proper (filled ps)
 proper_filled [] h = tt
 proper_filled (p ∷ ps) h = proper_keep p (filled ps) h.0 (proper_filled ps h.1)
 
-pub words_proper : (l : List ℕ) → All Proper (words l)
+pub words_proper : (l : List ℕ) → AllByRecursion Proper (words l)
 words_proper l = proper_filled (split 32 l) (split_lacks 32 l)
 
 -- one more byte in front of a line leaves its end as it is

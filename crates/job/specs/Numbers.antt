@@ -7,7 +7,7 @@
 -- number limit w     the value of w, if w is a number of at most limit
 -- Number limit w n   w is a number, n is its value, and n is at most limit
 use Rattle.std.specs.Prelude.{◌≡◌, ℕ, ◌+◌, ◌-◌, ◌*◌, ◌<◌, ◌≤◌, Bool, true, false, cond, ◌&&◌, List, [], ◌∷◌, length, Some, None, Option, nat_le}
-use Rattle.std.specs.List.{AllByRecursion as All}
+use Rattle.std.specs.List.{AllByRecursion}
 
 abbrev pub digit : ℕ → Bool
 digit c = nat_le 48 c && nat_le c 57
@@ -32,6 +32,6 @@ number limit w = cond (written w && nat_le (value w) limit) (Some (value w)) Non
 
 pub record Number (limit : ℕ) (w : List ℕ) (n : ℕ) : Type 0 where
   pub some : 0 < length w
-  pub decimal : All (λ c. (48 ≤ c) × (c ≤ 57)) w
+  pub decimal : AllByRecursion (λ c. (48 ≤ c) × (c ≤ 57)) w
   pub is : n ≡ value w
   pub within : n ≤ limit

@@ -9,7 +9,7 @@
 -- Agree n ρ σ               two assignments agree below the number n
 -- extend ρ n x              the assignment ρ, but with the world x at the number n
 use Rattle.std.proofs.Common.{◌≡◌, ℕ, ◌+◌, ◌<◌, ◌≤◌, cond, eqb, List, [], ◌∷◌, ◌++◌, sym, refl, ◌∙◌, subst, subst₂, arith}
-use Rattle.std.specs.List.{AllByRecursion as All}
+use Rattle.std.specs.List.{AllByRecursion}
 use Rattle.std.proofs.ByRecursion.{All-append, All-weaker}
 use Rattle.std.proofs.lemmas.Bool.{cond-true, cond-false, eq-eqb, ne_eqb}
 use Rattle.terms.specs.Truth.{Structure}
@@ -29,10 +29,10 @@ abbrev pub LinkBelow : ℕ → Link → Type 0
 LinkBelow n l = (l.from < n) × (l.to < n)
 
 abbrev pub Below : ℕ → List Fact → List Link → Type 0
-Below n fs ls = All (FactBelow n) fs × All (LinkBelow n) ls
+Below n fs ls = AllByRecursion (FactBelow n) fs × AllByRecursion (LinkBelow n) ls
 
 abbrev pub AllTrue : {W : Type 0} → Given → Structure W → (ℕ → W) → List Fact → List Link → Type 0
-AllTrue g M ρ fs ls = All (FactTrue g M ρ) fs × All (LinkTrue g M ρ) ls
+AllTrue g M ρ fs ls = AllByRecursion (FactTrue g M ρ) fs × AllByRecursion (LinkTrue g M ρ) ls
 
 pub record Numbered (b : Branch) : Type 0 where
   pub some : 0 < b.worlds
@@ -57,7 +57,7 @@ extend_here ρ n x = sym (cond-true (eqb n n) x (ρ n) (eq-eqb n n refl))
 pub extend_below : {W : Type 0} (ρ : ℕ → W) (n : ℕ) (x : W) → Agree n ρ (extend ρ n x)
 extend_below ρ n x k h = sym (cond-false (eqb k n) x (ρ k) (ne_eqb k n (λ e. omega arith)))
 
-both_append : (P : Fact → Type 0) (Q : Link → Type 0) (fs new-facts : List Fact) (ls new-links : List Link) → All P fs × All Q ls → All P new-facts × All Q new-links → All P (fs ++ new-facts) × All Q (ls ++ new-links)
+both_append : (P : Fact → Type 0) (Q : Link → Type 0) (fs new-facts : List Fact) (ls new-links : List Link) → AllByRecursion P fs × AllByRecursion Q ls → AllByRecursion P new-facts × AllByRecursion Q new-links → AllByRecursion P (fs ++ new-facts) × AllByRecursion Q (ls ++ new-links)
 both_append P Q fs new-facts ls new-links old new =
     (All-append P fs new-facts old.0 new.0, All-append Q ls new-links old.1 new.1)
 
@@ -73,7 +73,7 @@ numbered_added b n fs ls h new =
       below = both_append (FactBelow m) (LinkBelow m) b.facts fs b.links ls (below_more b.worlds m b.facts b.links (omega arith) h.below) new;
     }
 
-all_with : {X : Type 0} (P Q R : X → Type 0) → ((x : X) → P x → Q x → R x) → (xs : List X) → All P xs → All Q xs → All R xs
+all_with : {X : Type 0} (P Q R : X → Type 0) → ((x : X) → P x → Q x → R x) → (xs : List X) → AllByRecursion P xs → AllByRecursion Q xs → AllByRecursion R xs
 all_with P Q R f [] p q = tt
 all_with P Q R f (x ∷ xs) p q = (f x p.0 q.0, all_with P Q R f xs p.1 q.1)
 

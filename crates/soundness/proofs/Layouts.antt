@@ -2,19 +2,19 @@
 --
 -- Agree m            the first m bytes of the two files are the same
 use Rattle.std.proofs.Common.{◌≡◌, ℕ, zero, suc, ◌+◌, ◌*◌, ◌<◌, ◌≤◌, List, [], ◌∷◌, length, sym, ap, ◌∙◌, arith, below_none, below_more}
-use Rattle.std.specs.List.{AllByRecursion as All}
+use Rattle.std.specs.List.{AllByRecursion}
 use Rattle.std.proofs.lemmas.List.{ext_get_or}
 use Rattle.terms.proofs.Nths.{nth_some}
 use Rattle.files.specs.Heads.{byte, number}
 use Rattle.rules.specs.declared.line.Line.{Line}
 use Rattle.soundness.specs.ProofFiles.{line_at, ProofFile, SameBytes}
 
-byte_below : (bytes : List ℕ) → All (λ x. x < 256) bytes → (i : ℕ) → byte bytes i < 256
+byte_below : (bytes : List ℕ) → AllByRecursion (λ x. x < 256) bytes → (i : ℕ) → byte bytes i < 256
 byte_below [] small i = omega arith
 byte_below (x ∷ xs) small zero = small.0
 byte_below (x ∷ xs) small (suc i) = byte_below xs small.1 i
 
-module _ (xs ys : List ℕ) (xs-small : All (λ x. x < 256) xs) (ys-small : All (λ y. y < 256) ys) where
+module _ (xs ys : List ℕ) (xs-small : AllByRecursion (λ x. x < 256) xs) (ys-small : AllByRecursion (λ y. y < 256) ys) where
   abbrev Agree : ℕ → Type 0
   Agree m = (i : ℕ) → i < m → byte xs i ≡ byte ys i
 

@@ -3,7 +3,7 @@
 -- HeldSo M standing s     s holds in M as what has this standing must: a rule at all worlds, a saying at the start
 -- EntryHolds M g e        the statement of the entry e holds so
 use Rattle.std.proofs.Common.{◌≡◌, ℕ, true, false, eqb, List, [], ◌∷◌, Some, refl, subst, subst₂, inr, zero-le, arith}
-use Rattle.std.specs.List.{AllByRecursion as All}
+use Rattle.std.specs.List.{AllByRecursion}
 use Rattle.std.proofs.lemmas.Bool.{cond_both, false≢true}
 use Rattle.terms.specs.Laws.{SoundRows}
 use Rattle.terms.specs.Truth.{Structure, Holds, Finite, structure}
@@ -53,7 +53,7 @@ tin_sound =
     statement_named_sound _ speaks_for 3 0 0
 
 -- what is said of each entry is said of what is found under a serial
-filed_all : (P : Entry → Type 0) (es : List Entry) → All P es → (serial : ℕ) (e : Entry) → filed es serial ≡ Some e → P e
+filed_all : (P : Entry → Type 0) (es : List Entry) → AllByRecursion P es → (serial : ℕ) (e : Entry) → filed es serial ≡ Some e → P e
 filed_all P [] all serial e found = none_some e found
 filed_all P (x ∷ xs) all serial e found =
     cond_both (eqb serial x.serial) (Some x) (filed xs serial) (λ o. o ≡ Some e → P e)
@@ -69,7 +69,7 @@ module _ {W : Type 0} (M : Structure W) where
   abbrev EntryHolds : Given → Entry → Type 0
   EntryHolds g e = HeldSo e.standing (sentence g e.row)
 
-  live_holds : (es : List Entry) → All (EntryHolds (tin_with es)) es → (standing : Standing) (serial n : ℕ) (s : Statement) → Live (tin_with es) standing serial n → statement_written tin n ≡ Some s → HeldSo standing s
+  live_holds : (es : List Entry) → AllByRecursion (EntryHolds (tin_with es)) es → (standing : Standing) (serial n : ℕ) (s : Statement) → Live (tin_with es) standing serial n → statement_written tin n ≡ Some s → HeldSo standing s
   live_holds es all standing serial n s live written =
       let g = tin_with es in
       let at = live.row in
@@ -77,7 +77,7 @@ module _ {W : Type 0} (M : Structure W) where
       let same : sentence g live.entry.row ≡ s = cc in
       subst₂ HeldSo live.stands same (filed_all (EntryHolds g) es all serial live.entry live.found)
 
-tin_refuted : (es : List Entry) (f : Finite) → All (EntryHolds (structure f) (tin_with es)) es → (r : ℕ) (s : Statement) → statement_written tin r ≡ Some s → (Holds (structure f) s (structure f).start → ⊥) → NeverProved (tin_with es) r
+tin_refuted : (es : List Entry) (f : Finite) → AllByRecursion (EntryHolds (structure f) (tin_with es)) es → (r : ℕ) (s : Statement) → statement_written tin r ≡ Some s → (Holds (structure f) s (structure f).start → ⊥) → NeverProved (tin_with es) r
 tin_refuted es f hold =
     refuted_by (tin_with es) tin_sound f (live_holds (structure f) es hold Rule) (live_holds (structure f) es hold Saying)
 

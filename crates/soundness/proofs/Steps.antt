@@ -7,7 +7,7 @@
 -- Explained g M b fs ls         whatever models the branch b, it cannot be that no assignment agreeing with it on the worlds of b makes the facts fs and the links ls right
 -- Step g M b e                  what the effect e makes of the branch b is numbered, and if no assignment models that, none models b
 use Rattle.std.proofs.Common.{◌≡◌, ℕ, zero, suc, ◌+◌, ◌<◌, List, [], ◌∷◌, Some, sym, refl, ◌∙◌, subst, subst₂, inl, inr, arith}
-use Rattle.std.specs.List.{slice_get, AllByRecursion as All}
+use Rattle.std.specs.List.{slice_get, AllByRecursion}
 use Rattle.terms.specs.declared.row.PrincipalRow.{PrincipalRow}
 use Rattle.terms.specs.declared.row.StatementRow.{StatementRow}
 use Rattle.terms.specs.Laws.{SoundRows}
@@ -56,7 +56,7 @@ Step g M b (forks x y) =
     Numbered (beside b x) × Numbered (beside b y) × (Unsatisfied g M (beside b x) → Unsatisfied g M (beside b y) → Unsatisfied g M b)
 Step g M b closes = Unsatisfied g M b
 
-all_nth : {X : Type 0} (P : X → Type 0) (xs : List X) (k : ℕ) (x : X) → All P xs → slice_get xs k ≡ Some x → P x
+all_nth : {X : Type 0} (P : X → Type 0) (xs : List X) (k : ℕ) (x : X) → AllByRecursion P xs → slice_get xs k ≡ Some x → P x
 all_nth P [] k x h e = let z : ◌≡◌ {A = ℕ} 0 1 = cc in absurd (omega arith)
 all_nth P (y ∷ ys) zero x h e = let same : y ≡ x = cc in subst P same h.0
 all_nth P (y ∷ ys) (suc k) x h e = all_nth P ys k x h.1 e

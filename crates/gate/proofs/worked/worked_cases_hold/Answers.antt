@@ -11,5 +11,11 @@ returns c =
         full_ledger = refl;
         struck = refl;
         filed_after_striking = refl;
+        proof_length = refl;
+        proved = refl;
+        six_facts = refl;
+        saying_struck = refl;
+        for_itself = refl;
+        no_clash = refl;
       };
     }
