@@ -1,13 +1,13 @@
--- NextExact               Next says exactly what next_after computes, of orderly live entries
+-- NextExact                Next says exactly what next_after computes, of orderly live entries
 -- Unfileable m e d         filing e is denied with d: the first ground that fits, in the order 6, 7, 8, 9
 -- Entered before e after   e is live besides, on one free place, and all else is as before
 -- Filed before e r after   what filing e answers and leaves: entered, or denied with nothing changed
 -- Unstrikable m s d        striking s is denied with d
 -- Removed before s after   s is live no more, its place is free, and all else is as before
 -- Struck before s r after  what striking s answers and leaves
--- FilingExact             Filed says exactly what file_answer and file_after compute
--- StrikingExact           Struck says exactly what strike_answer and strike_after compute
--- TakenBack               an entry filed and struck again leaves the book as it was
+-- FilingExact              Filed says exactly what file_answer and file_after compute
+-- StrikingExact            Struck says exactly what strike_answer and strike_after compute
+-- TakenBack                an entry filed and struck again leaves the book as it was
 use Rattle.std.specs.Prelude.{◌≡◌, ℕ, suc, true, false, Some, None, Ok, Err, Option, Result, ◌≢◌}
 use Rattle.denials.specs.declared.denial.Denial.{Denial}
 use Rattle.denials.specs.Denials.{denied}

@@ -1,6 +1,6 @@
 -- on xs s                  whether serial s is on a sheet of the serials xs
 -- sheet_list t             the serials on the sheet t, in the order in which they were added
--- SheetSound t            what a sheet keeps true: it has room for 64 serials, and 0 is not on it
+-- SheetSound t             what a sheet keeps true: it has room for 64 serials, and 0 is not on it
 -- sheet_add_number xs s    0 if s can be added, or the number of the denial
 -- sheet_add_answer xs s    what adding s answers
 -- sheet_add_after xs s     the serials on the sheet after adding s

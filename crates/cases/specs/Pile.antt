@@ -1,7 +1,7 @@
 -- asked m e other        the answers of a book that means m: e looked up, filed and struck, then another filed
 -- a_rule s n             the rule of serial s over statement row n
 -- held_before            a ledger of three records that holds an entry of serial 5
--- WorkedPile r          r is what that ledger answers under sheets with 5 and 6: the entry is recalled, and serial 7 can be filed
+-- WorkedPile r           r is what that ledger answers under sheets with 5 and 6: the entry is recalled, and serial 7 can be filed
 use Rattle.std.specs.Prelude.{◌≡◌, ℕ, false, [], ◌∷◌, Some, None, Ok, Err}
 use Rattle.denials.specs.Denials.{denied}
 use Rattle.book.specs.declared.entry.Entry.{Entry}

@@ -2,7 +2,7 @@
 --
 -- Desk                      the states of the open gates, in the order of opening, and which is current
 -- desk_of c                 the desk of the console c
--- ConsoleSound c           the books of all its gates keep what they have to
+-- ConsoleSound c            the books of all its gates keep what they have to
 -- place_of n gs             where the gate with the number n stands
 -- Admits d g r e            a gate in the state g was taken in and made current, or there is no memory and nothing changed
 -- Opens d n opened r e      what `open` answers and leaves

@@ -1,6 +1,6 @@
 -- What a console's lowest book means.
 --
--- ShelfSound b               what its records keep true
+-- ShelfSound b                what its records keep true
 -- shelf_live b s              its live entry under the serial s
 -- shelf_barred b s            whether it bars the serial s
 -- shelf_free b                its free places

@@ -10,7 +10,7 @@
 -- count_within limit h      the count, if it is 1 to `limit` (else denied 18, byte 8)
 -- long_as n bytes           done, if there are n bytes in all (else denied 19, byte 10)
 -- Headed kind r n bytes     the file begins with a head of this kind, request and count
--- HeadExactly              a head is read just where the file begins with a head of one of the kinds
+-- HeadExactly               a head is read just where the file begins with a head of one of the kinds
 use Rattle.std.specs.Prelude.{◌≡◌, ℕ, ◌+◌, ◌*◌, ◌≤◌, Bool, true, false, cond, ◌&&◌, List, [], ◌∷◌, length, Ok, Err, Result, ◌==◌, nat_le, nat_lt, slice_index}
 use Rattle.denials.specs.declared.denial.Denial.{Denial}
 use Rattle.denials.specs.Denials.{denied}

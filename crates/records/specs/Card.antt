@@ -3,7 +3,7 @@
 -- card_barred s            a card book bars the serials above 256
 -- live_count live n        how many of the serials 1 to n are live
 -- card_free xs             its free places: 256 less its live entries
--- CardSound xs            each of the 256 records is blank or bears the serial of its place
+-- CardSound xs             each of the 256 records is blank or bears the serial of its place
 use Rattle.std.specs.Prelude.{◌≡◌, ℕ, zero, suc, ◌+◌, ◌-◌, ◌<◌, Bool, cond, ◌⊎◌, List, length, is_some, Some, None, Option, ◌==◌, ◌≢◌, nat_lt, slice_index_or, refl}
 use Rattle.std.proofs.Common.{ap, ◌∙◌, ⊎_elim, arith}
 use Rattle.std.proofs.lemmas.List.{get_or_past}

@@ -1,10 +1,10 @@
 -- ledger_size xs       how many of the records xs a ledger uses: the first 1,024, or all if there are fewer
--- LedgerSound xs n    what a ledger keeps true of its records, of which n are in use
+-- LedgerSound xs n     what a ledger keeps true of its records, of which n are in use
 -- ledger_live xs n     the live entries of a ledger
 -- ledger_free xs n     its free places. It bars nothing
--- BlankFront xs       the records that a ledger uses are blank
+-- BlankFront xs        the records that a ledger uses are blank
 -- Behind xs ys         the records behind the first 1,024 are in ys as they were in xs
--- SameBehind r s      r and s lend the same slice, of one length, and the records behind the first 1,024 are alike
+-- SameBehind r s       r and s lend the same slice, of one length, and the records behind the first 1,024 are alike
 use Rattle.std.specs.Prelude.{◌≡◌, ℕ, ◌-◌, ◌<◌, ◌≤◌, min, List, length, Option, slice_index_or, refl}
 use Rattle.std.proofs.Common.{◌∙◌}
 use Rattle.std.specs.Borrow.{MutBor}

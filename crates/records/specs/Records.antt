@@ -5,8 +5,8 @@
 -- kept_means xs size n       what a book of such records means: it bars nothing
 -- Placed xs n from at        at is the first of n rising records whose serial is not below from, or n
 -- Sought xs n s answer       the record that bears s, or the place where it would stand
--- ShiftedIn xs n at e ys    ys is xs with e put in at place at, and the records from there to n moved up by one
--- ShiftedOut xs n at ys     ys is xs without record at, those from there to n moved down by one, and a blank last
+-- ShiftedIn xs n at e ys     ys is xs with e put in at place at, and the records from there to n moved up by one
+-- ShiftedOut xs n at ys      ys is xs without record at, those from there to n moved down by one, and a blank last
 -- Wiped xs size ys           ys is xs with the first size records blank
 use Rattle.std.specs.Prelude.{◌≡◌, ℕ, zero, suc, ◌-◌, ◌<◌, ◌≤◌, false, cond, List, length, get_or, Some, None, Ok, Err, Option, Result, ◌==◌, ◌≢◌, slice_index_or}
 use Rattle.book.specs.declared.entry.Entry.{Entry}

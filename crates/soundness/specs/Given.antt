@@ -1,8 +1,8 @@
 -- What a proof rests on: the named rows and the live entries of the book.
 --
 -- Given                        the rows and the live entries by serial
--- StatementIs g n r           the statement row n is r
--- PrincipalIs g n r           the principal row n is r
+-- StatementIs g n r            the statement row n is r
+-- PrincipalIs g n r            the principal row n is r
 -- Live g standing serial n     the entry of the serial is live with this standing, and its statement row n is named
 use Rattle.std.specs.Prelude.{◌≡◌, ℕ, Some, Option}
 use Rattle.std.specs.List.{slice_get}

@@ -4,13 +4,13 @@
 -- entry serial standing n   the statement row n, held so under the serial
 -- filed es                  the live entries by serial, where just the entries es are live
 -- tin_with es               the rows of the tin, where just the entries es are live
--- NeverProved g r          no file keeps the rules with the request r, within whatever limits
--- OneIsNotBoth           where Shop says pour, that Shop & Lab says pour is never proved
--- NotTurnedRound          where Shop speaks for Lab and Lab says pour, that Shop says pour is never proved
--- AtTheStartOnly         where pour is a saying, that Shop says pour is never proved
+-- NeverProved g r           no file keeps the rules with the request r, within whatever limits
+-- OneIsNotBoth              where Shop says pour, that Shop & Lab says pour is never proved
+-- NotTurnedRound            where Shop speaks for Lab and Lab says pour, that Shop says pour is never proved
+-- AtTheStartOnly            where pour is a saying, that Shop says pour is never proved
 -- clash                     the line that closes a branch whose fact number 2 is true and its fact number 1 false, of one statement and world
 -- closing ls                what walking answers to a proof of "pour and pour" that closes its first branch and goes on with the lines ls; live are the sayings 1, pour, and 2, Shop says pour
--- ClosedIsGone            what stood only on a closed branch cannot be cited on the next one
+-- ClosedIsGone              what stood only on a closed branch cannot be cited on the next one
 use Rattle.std.specs.Prelude.{◌≡◌, ℕ, List, [], ◌∷◌, None, Ok, Err, Option, Result}
 use Rattle.denials.specs.declared.denial.Denial.{Denial}
 use Rattle.denials.specs.Denials.{denied}

@@ -6,10 +6,10 @@
 -- Reading                     what the head of a proof file says: the request's row, and how many lines there are
 -- proof_read most named bytes    that, where so many rows are named and a proof may have so many lines; denied 14 to 19
 -- walked lim g bytes          the request's row, if the file passes; or the first denial: 14 to 19 of the head, 25 at place 0 if the fact table cannot take the request, 20 to 26 of the lines
--- ProofFile most r ls bytes  the bytes are laid out as a proof of the statement row r by the lines ls, of which there are 1 to `most`
+-- ProofFile most r ls bytes   the bytes are laid out as a proof of the statement row r by the lines ls, of which there are 1 to `most`
 -- Keeps g ok most bytes r     the file keeps the rules: it is laid out as a proof of r, r is named, and its lines complete the proof; `ok` holds at the start and after each line
 -- file_of r ls                the bytes of a proof of the statement row r by the lines ls
--- SameBytes                  two files of bytes that are laid out as a proof of the same request by the same lines are the same bytes
+-- SameBytes                   two files of bytes that are laid out as a proof of the same request by the same lines are the same bytes
 use Rattle.std.specs.Prelude.{◌≡◌, ℕ, zero, suc, ◌+◌, ◌*◌, ◌/◌, ◌%◌, ◌<◌, ◌≤◌, cond, List, [], ◌∷◌, ◌++◌, length, Some, Ok, Err, Result, nat_le}
 use Rattle.std.specs.List.{slice_get, AllByRecursion}
 use Rattle.denials.specs.declared.denial.Denial.{Denial}

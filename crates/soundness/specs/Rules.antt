@@ -1,8 +1,8 @@
 -- The rules of the tableau as a relation.
 --
 -- line code a b c            the line with this code and these operands
--- HasFact b k sign n w      the fact number k of the branch b: the statement row n is true, or false, at the world w
--- HasLink b k sign n w v    the link number k: the pair (w, v) is, or is not, one of the principal row n
+-- HasFact b k sign n w       the fact number k of the branch b: the statement row n is true, or false, at the world w
+-- HasLink b k sign n w v     the link number k: the pair (w, v) is, or is not, one of the principal row n
 -- Allows g b l e             on the branch b the line l is allowed, and its effect is e; one case for each rule, two for the rule that takes either side
 -- Completes g ok p ls        the lines ls complete the proof that has come as far as p: each is allowed, the last and none before completes it, and `ok` holds after each
 use Rattle.std.specs.Prelude.{◌≡◌, ℕ, ◌+◌, ◌<◌, List, [], ◌∷◌, Some}

@@ -1,9 +1,9 @@
 -- The three tables of a walk, and what they hold.
 --
--- SoundTables f l k           what the trails of facts, links and forks keep true of their places
+-- SoundTables f l k            what the trails of facts, links and forks keep true of their places
 -- Fresh f l k                  they have no entry
--- SameTables f l k f' l' k'   they are lent the same slices before and after
--- SideRoom f l side           there is room for one alternative of a fork
+-- SameTables f l k f' l' k'    they are lent the same slices before and after
+-- SideRoom f l side            there is room for one alternative of a fork
 -- limits_of f l k              the limits of a walk with these trails
 -- branch_of f l n              the branch that they hold, with n worlds
 -- forks_of k                   the forks, the latest first

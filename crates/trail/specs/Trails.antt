@@ -4,12 +4,12 @@
 -- Sound blank places len   what a trail keeps true of its places, the first `len` of which are in use: no more are in use than count, and all the others are blank
 -- entries_of t             the entries of the trail t, in order of arrival
 -- capacity_of t            how many entries it can hold
--- TrailSound blank t      what the trail t keeps true of its places
--- SamePlaces r s          r and s lend the same slice, of one length
+-- TrailSound blank t       what the trail t keeps true of its places
+-- SamePlaces r s           r and s lend the same slice, of one length
 -- pushed limit xs x        the entries after adding x
 -- push_answer limit xs x   what adding x answers where `limit` entries fit: done, or x itself where there is no place left
 -- Cleared blank xs m n ys   ys is xs with the places from m on, before n, blanked
--- AllBlank blank places   every place is blank, those that do not count too
+-- AllBlank blank places    every place is blank, those that do not count too
 use Rattle.std.specs.Prelude.{◌≡◌, ℕ, ◌<◌, ◌≤◌, min, cond, List, [], ◌∷◌, ◌++◌, length, take, Ok, Err, Result, nat_lt, slice_index_or}
 use Rattle.std.specs.Borrow.{MutBor}
 use Rattle.trail.specs.declared.trail.Trail.{Trail}
