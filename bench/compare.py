@@ -6,6 +6,8 @@ import subprocess
 import sys
 import tempfile
 
+from proof_file import proof
+
 gate, reference, jobs, seed = sys.argv[1], sys.argv[2], int(sys.argv[3]), int(sys.argv[4])
 rnd = random.Random(seed)
 
@@ -122,14 +124,6 @@ def grow(principals, statements, book, request, length):
             facts, links = facts[:nf], links[:nl]
             (facts if kind == "fact" else links).append(kept)
     return lines
-
-
-def proof(request, lines):
-    data = b"PMT" + bytes([0, 1, 1]) + request.to_bytes(2, "big") + len(lines).to_bytes(2, "big")
-    for line in lines:
-        code, a, b, c = (list(line) + [0, 0, 0])[:4]
-        data += bytes([code]) + a.to_bytes(2, "big") + b.to_bytes(2, "big") + c.to_bytes(2, "big")
-    return data
 
 
 def damaged(data):

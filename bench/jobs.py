@@ -2,16 +2,10 @@
 import os
 import sys
 
+from proof_file import proof
+
 out = sys.argv[1]
 TURNS = int(sys.argv[2]) if len(sys.argv) > 2 else 300
-
-
-def proof(request, lines):
-    data = b"PMT" + bytes([0, 1, 1]) + request.to_bytes(2, "big") + len(lines).to_bytes(2, "big")
-    for line in lines:
-        code, a, b, c = (list(line) + [0, 0, 0])[:4]
-        data += bytes([code]) + a.to_bytes(2, "big") + b.to_bytes(2, "big") + c.to_bytes(2, "big")
-    return data
 
 
 def write(name, file, names, turns):
