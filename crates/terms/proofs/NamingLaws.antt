@@ -1,8 +1,14 @@
 -- Naming, in the subject's words: what it answers, that it adds at most one row, and that naming again changes nothing.
-use Rattle.std.proofs.Common.{◌≡◌, ℕ, suc, ◌+◌, ◌≤◌, Bool, true, false, cond, ◌&&◌, eqb, ltb, List, [], ◌∷◌, ◌++◌, length, IfOk, Some, None, Ok, Err, Option, Result, sym, refl, ap, ◌∙◌, inl, inr, arith, ltb-true, lt-ltb, eqb-true}
-use Rattle.std.specs.List.{slice_get}
+use Rattle.std.proofs.Common.{◌≡◌, ℕ, ◌≤◌, Bool, true, false, cond, ◌&&◌, eqb, ltb, List, [], ◌∷◌, ◌++◌, length, get_or, IfOk, Some, None, Ok, Err, Option, Result, sym, refl, ap, ◌∙◌, inl, inr, arith, ltb-true, lt-ltb, eqb-true}
+use Rattle.std.specs.List.{position, position_or_len, slice_get}
 use Rattle.std.proofs.lemmas.Bool.{and_parts, and_from, cond_both}
 use Rattle.std.proofs.lemmas.List.{length_push}
+use Rattle.std.proofs.lemmas.List.Folds.{position_or_len_push}
+use Rattle.std.proofs.lemmas.List.Quantifiers.{position-Some}
+use Rattle.std.proofs.lemmas.List.Sums.{prefix_len-le-length}
+use Rattle.std.proofs.lemmas.Option.{slice_get-get_or}
+use Rattle.std.proofs.lemmas.Grind.{common_steps}
+use Rattle.std.specs.Prelude.{not}
 use Rattle.denials.specs.declared.denial.Denial.{Denial}
 use Rattle.terms.specs.declared.row.PrincipalRow.{PrincipalRow}
 use Rattle.terms.specs.declared.row.PrincipalRow.TheVariants.{Atom, Both, Quoting}
@@ -10,32 +16,17 @@ use Rattle.terms.specs.declared.row.StatementRow.{StatementRow}
 use Rattle.terms.specs.declared.row.StatementRow.TheVariants.{Request, Not, And, Says, SpeaksFor}
 use Rattle.denials.specs.Denials.{denied}
 use Rattle.terms.specs.Rows.{Determined, principal_form, principal_x, principal_y, statement_form, statement_x, statement_y}
-use Rattle.terms.specs.Naming.{same, position, further, put_answer, put_after, answered, left, with_operands, read_principal, read_statement}
+use Rattle.terms.specs.Naming.{same, put_answer, put_after, answered, left, with_operands, read_principal, read_statement}
 use Rattle.terms.specs.Laws.{OneMore, Answered}
 use Rattle.terms.proofs.Nths.{nth_last}
-use Rattle.terms.proofs.TableLaws.{same_refl, same_is, position_step, fitting}
+use Rattle.terms.proofs.TableLaws.{same_refl, same_is, none_past, fitting}
 
--- where the search found a row, it passes the test
-further_some : (o : Option ℕ) (n : ℕ) → further 1 o ≡ Some n → (m : ℕ) × ((o ≡ Some m) × (n ≡ suc m))
-further_some None n e = let z : ◌≡◌ {A = ℕ} 0 1 = cc in absurd (omega arith)
-further_some (Some m) n e = (m, (refl, (let h : n ≡ 1 + m = cc in omega arith)))
-
-pub position_passes : {R : Type 0} (is : R → Bool) (rows : List R) (n : ℕ) → position is rows ≡ Some n → (r : R) × ((slice_get rows n ≡ Some r) × (is r ≡ true))
-position_passes is [] n e = let z : ◌≡◌ {A = ℕ} 0 1 = cc in absurd (omega arith)
-position_passes {R} is (x ∷ xs) n e = go (is x) refl e (position_passes is xs)
-  where
-    go : (b : Bool) → is x ≡ b → cond b (Some 0) (further 1 (position is xs)) ≡ Some n → ((m : ℕ) → position is xs ≡ Some m → (r : R) × ((slice_get xs m ≡ Some r) × (is r ≡ true))) → (r : R) × ((slice_get (x ∷ xs) n ≡ Some r) × (is r ≡ true))
-    go true passes found later = let zeroth : 0 ≡ n = cc in (x, (ap (slice_get (x ∷ xs)) (sym zeroth), passes))
-    go false fails found later =
-        let rest = further_some (position is xs) n found in
-        let hit = later rest.0 rest.1.0 in
-        (hit.0, (ap (slice_get (x ∷ xs)) rest.1.1 ∙ hit.1.0, hit.1.1))
-
+-- a row that the search has not found is found at the end once it stands there
 position_push : {R : Type 0} (is : R → Bool) (rows : List R) (r : R) → position is rows ≡ None → is r ≡ true → position is (rows ++ (r ∷ [])) ≡ Some (length rows)
-position_push is [] r none passes = ap (λ b. cond b (Some 0) None) passes
-position_push is (x ∷ xs) r none passes =
-    let step = position_step is x xs none in
-    ap (λ b. cond b (Some 0) (further 1 (position is (xs ++ (r ∷ []))))) step.0 ∙ ap (further 1) (position_push is xs r step.1 passes) ∙ ap Some (omega arith)
+position_push is rows r none passes =
+    let all : position_or_len is rows ≡ length rows = omega (arith, none_past is rows none, prefix_len-le-length (λ x. not (is x)) rows) in
+    let pushed = position_or_len_push is rows r in
+    grind (arith, common_steps, pushed, length_push rows r)
 
 module _ {R : Type 0} (form x y : R → ℕ) (determined : Determined form x y) (limit : ℕ) (rows : List R) where
   -- putting the row r in
@@ -53,10 +44,11 @@ module _ {R : Type 0} (form x y : R → ℕ) (determined : Determined form x y) 
 
   put_row : (r : R) (at : Option ℕ) → position (same form x y r) rows ≡ at → (n : ℕ) → put_answer limit rows at ≡ Ok n → slice_get (put_after limit rows r at) n ≡ Some r
   put_row r (Some m) found n e =
-      let hit = position_passes (same form x y r) rows m found in
-      let is-r = same_is form x y determined r hit.0 hit.1.1 in
+      let hit = position-Some (same form x y r) rows m r found in
+      let is-r = same_is form x y determined r (get_or rows m r) hit.1 in
+      let there = slice_get-get_or rows m r hit.0 in
       let number : m ≡ n = cc in
-      ap (slice_get rows) (sym number) ∙ hit.1.0 ∙ ap Some (sym is-r)
+      cc
   put_row r None found n e = go (ltb (length rows) limit) e
     where
       go : (b : Bool) → cond b (Ok (length rows)) (Err (denied 3 0)) ≡ Ok n → slice_get (cond b (rows ++ (r ∷ [])) rows) n ≡ Some r

@@ -1,6 +1,6 @@
 -- The tables are sound, naming keeps them so, and it is lawful.
 use Rattle.std.proofs.Common.{◌≡◌, ℕ, ◌≤◌, ltb, List, [], ◌∷◌, ◌++◌, length, take, IfOk, Some, None, Ok, Err, Option, Result, refl, ap, ◌∙◌, inl, inr, arith, ltb-true}
-use Rattle.std.specs.List.{slice_get}
+use Rattle.std.specs.List.{position, slice_get}
 use Rattle.std.proofs.lemmas.List.{length_push, length-take-le}
 use Rattle.std.proofs.lemmas.Bool.{cond_both}
 use Rattle.denials.specs.declared.denial.Denial.{Denial}
@@ -8,7 +8,7 @@ use Rattle.terms.specs.declared.names.Names.{Names}
 use Rattle.terms.specs.declared.row.PrincipalRow.{PrincipalRow}
 use Rattle.terms.specs.declared.row.StatementRow.{StatementRow}
 use Rattle.terms.specs.Rows.{principal_form, principal_x, principal_y, principal_determined, statement_form, statement_x, statement_y, statement_determined}
-use Rattle.terms.specs.Naming.{same, position, put_answer, put_after, answered, left, read_principal, read_statement, principal_after, statement_after, same_principal, same_statement}
+use Rattle.terms.specs.Naming.{same, put_answer, put_after, answered, left, read_principal, read_statement, principal_after, statement_after, same_principal, same_statement}
 use Rattle.terms.specs.Tables.{Distinct, Every, PartsNamed, principal_needs, statement_needs, principals_needed}
 use Rattle.terms.specs.Written.{Principal, Statement, Rows, principal_of, statement_of, principals_written, statements_written}
 use Rattle.terms.specs.Laws.{OneMore, Stay, Apart, Answered, LawfulNaming, SoundRows, principal_name, principal_named, statement_name, statement_named}
