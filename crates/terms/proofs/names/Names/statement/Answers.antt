@@ -14,7 +14,7 @@ invariant_of-self c =
     let row = c.in_ok-row.row in
     let count : length (take ps.count ps.rows) ≡ ps.count = length-take-le ps.count ps.rows (omega arith) in
     let here : principals_needed row ≤ ps.count = omega (arith, c.in_ok-row.ensures.named) in
-    record { named = subst (PartsNamed principals_needed ps.count) (sym c.put.ensures.after) (every_put (λ n r. principals_needed r ≤ ps.count) 256 (take ss.count ss.rows) row _ here old.named) }
+    record { named = subst (PartsNamed principals_needed ps.count) (sym c.put.ensures.after) (every_put (λ n r. principals_needed r ≤ ps.count) _ (take ss.count ss.rows) row _ here old.named) }
 
 pub returns-clause-lawful : goal.returns-clause-lawful
 returns-clause-lawful c = statement_lawful (rows_of c.args.self.now) (rows_sound c.args.self.now) c.args.form c.args.x c.args.y
