@@ -8,12 +8,12 @@
 -- Step g M b e                  what the effect e makes of the branch b is numbered, and if no assignment models that, none models b
 use Rattle.std.proofs.Common.{◌≡◌, ℕ, zero, suc, ◌+◌, ◌<◌, List, [], ◌∷◌, Some, sym, refl, ◌∙◌, subst, subst₂, inl, inr, arith}
 use Rattle.std.specs.List.{slice_get, AllByRecursion}
+use Rattle.std.proofs.lemmas.Option.{slice_get_within}
 use Rattle.terms.specs.declared.row.PrincipalRow.{PrincipalRow}
 use Rattle.terms.specs.declared.row.StatementRow.{StatementRow}
 use Rattle.terms.specs.Laws.{SoundRows}
 use Rattle.terms.specs.Truth.{Structure, Pair, Holds, Settled}
 use Rattle.terms.specs.Written.{statement_written}
-use Rattle.terms.proofs.Nths.{nth_below}
 use Rattle.book.specs.declared.entry.Standing.{Standing}
 use Rattle.rules.specs.declared.branch.Fact.{Fact}
 use Rattle.rules.specs.declared.branch.Link.{Link}
@@ -108,7 +108,7 @@ module _ (g : Given) (sound : SoundRows g.rows) {W : Type 0} (M : Structure W) (
   link_whole n {r} is x y h = subst (λ p. Pair M p x y) (sym (principal_is g sound n r is)) h
 
   live_written : {standing : Standing} {serial n : ℕ} → Live g standing serial n → statement_written g.rows n ≡ Some (sentence g n)
-  live_written {n} live = named_sentence g n (nth_below g.rows.statements n live.named.0 live.named.1)
+  live_written {n} live = named_sentence g n (slice_get_within g.rows.statements n live.named.0 live.named.1)
 
   pub allowed : (l : Line) (e : Effect) → Allows g b l e → Step g M b e
   allowed l e (cite_rule serial n w _ within live eq) =

@@ -11,13 +11,12 @@
 -- LinkTrue g M ρ l          the link l is right in M
 use Rattle.std.proofs.Common.{◌≡◌, ℕ, ◌<◌, List, length, get_or, Some, arith}
 use Rattle.std.specs.List.{slice_get}
-use Rattle.std.proofs.lemmas.Option.{slice_get-get_or}
+use Rattle.std.proofs.lemmas.Option.{slice_get-get_or, slice_get_within}
 use Rattle.terms.specs.declared.row.PrincipalRow.{PrincipalRow}
 use Rattle.terms.specs.declared.row.StatementRow.{StatementRow}
 use Rattle.terms.specs.Laws.{SoundRows}
 use Rattle.terms.specs.Truth.{Structure, Pair, Holds}
 use Rattle.terms.specs.Written.{Principal, atom, Statement, request, principal_at, statement_at, principal_of, statement_of, principals_written, statements_written, statement_written}
-use Rattle.terms.proofs.Nths.{nth_below}
 use Rattle.terms.proofs.Writing.{length_written, principal_row_writes, statement_row_writes}
 use Rattle.rules.specs.declared.branch.Fact.{Fact}
 use Rattle.rules.specs.declared.branch.Link.{Link}
@@ -69,7 +68,7 @@ named_sentence g n h =
     slice_get-get_or (statements g) n (request 0) (omega (arith, length_written (statement_of (principals g)) g.rows.statements))
 
 nth_value : {X : Type 0} (xs : List X) (n : ℕ) (x d : X) → slice_get xs n ≡ Some x → get_or xs n d ≡ x
-nth_value xs n x d e = let h = slice_get-get_or xs n d (nth_below xs n x e) in cc
+nth_value xs n x d e = let h = slice_get-get_or xs n d (slice_get_within xs n x e) in cc
 
 -- a named row says what its parts make of it
 module _ (g : Given) (sound : SoundRows g.rows) where

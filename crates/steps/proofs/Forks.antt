@@ -2,10 +2,9 @@
 use Rattle.std.proofs.Common.{◌≡◌, ℕ, ◌+◌, ◌-◌, ◌<◌, ◌≤◌, List, [], ◌∷◌, ◌++◌, reverse, length, get_or, take, Some, None, Option, sym, refl, ap, ◌∙◌, arith, MatchOption}
 use Rattle.std.specs.List.{slice_get}
 use Rattle.std.proofs.lemmas.List.{reverse-append, take_more, take_all}
-use Rattle.std.proofs.lemmas.Option.{slice_get-get_or}
+use Rattle.std.proofs.lemmas.Option.{slice_get-get_or, slice_get_within}
 use Rattle.trail.specs.declared.trail.Trail.{Trail}
 use Rattle.trail.specs.Trails.{entries_of, capacity_of}
-use Rattle.terms.proofs.Nths.{nth_below}
 use Rattle.rules.specs.declared.branch.Fact.{Fact}
 use Rattle.rules.specs.declared.branch.Fork.{Fork}
 use Rattle.rules.specs.declared.branch.Link.{Link}
@@ -22,7 +21,7 @@ latest_of (x ∷ xs) n None last found =
     let z : ◌≡◌ {A = ℕ} 0 1 = cc in
     absurd (omega arith)
 latest_of xs n (Some y) last found =
-    let below = nth_below xs n y (sym found) in
+    let below = slice_get_within xs n y (sym found) in
     let here = slice_get-get_or xs n y below in
     let is : get_or xs n y ≡ y = cc in
     let whole : xs ≡ take n xs ++ (y ∷ []) = sym (take_all (n + 1) xs (omega arith)) ∙ take_more xs n y below ∙ ap (λ z. take n xs ++ (z ∷ [])) is in

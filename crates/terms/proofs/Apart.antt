@@ -1,14 +1,13 @@
 -- Two rows of a table that write out alike are one row.
 use Rattle.std.proofs.Common.{◌≡◌, ℕ, zero, suc, ◌<◌, ◌≤◌, List, [], length, get_or, Some, sym, ap, ◌∙◌, arith}
 use Rattle.std.specs.List.{slice_get}
-use Rattle.std.proofs.lemmas.Option.{slice_get-get_or}
+use Rattle.std.proofs.lemmas.Grind.{common_steps}
+use Rattle.std.proofs.lemmas.Option.{slice_get-get_or, slice_get_within}
 use Rattle.terms.specs.declared.row.PrincipalRow.{PrincipalRow}
-use Rattle.terms.specs.declared.row.PrincipalRow.TheVariants.{Atom, Both, Quoting}
 use Rattle.terms.specs.declared.row.StatementRow.{StatementRow}
-use Rattle.terms.specs.declared.row.StatementRow.TheVariants.{Request, Not, And, Says, SpeaksFor}
 use Rattle.terms.specs.Tables.{Distinct, PartsEarlier, PartsNamed, principal_needs, statement_needs, principals_needed}
 use Rattle.terms.specs.Written.{Principal, atom, Statement, request, principal_of, statement_of, write_out, principals_written, statements_written}
-use Rattle.terms.proofs.Nths.{nth_below, nth_some}
+use Rattle.terms.proofs.Nths.{nth_some}
 use Rattle.terms.proofs.Writing.{length_written, principal_row_writes, statement_row_writes}
 
 -- terms at numbers below m and below n are equal only where the numbers are
@@ -38,22 +37,14 @@ module _ {R X : Type 0} (of : List X → R → X) (d : X) (needs : R → ℕ) (r
   rows_apart i j x e f =
       let terms = write_out of [] rows in
       let sized = length_written of rows in
-      let below-i = nth_below terms i x e in
-      let below-j = nth_below terms j x f in
+      let below-i = slice_get_within terms i x e in
+      let below-j = slice_get_within terms j x f in
       let at_i = slice_get-get_or terms i d below-i in
       let at_j = slice_get-get_or terms j d below-j in
       told_below (suc i) i j (omega arith) (omega arith) (omega arith) (cc)
 
 principals_alike : (ps : List Principal) (r s : PrincipalRow) → Told ps (atom 0) (principal_needs r) (principal_needs s) → principal_of ps r ≡ principal_of ps s → r ≡ s
-principals_alike ps (Atom x) (Atom u) told e = cc
-principals_alike ps (Atom x) (Both u v) told e = let z : ◌≡◌ {A = ℕ} 0 1 = cc in absurd (omega arith)
-principals_alike ps (Atom x) (Quoting u v) told e = let z : ◌≡◌ {A = ℕ} 0 1 = cc in absurd (omega arith)
-principals_alike ps (Both x y) (Atom u) told e = let z : ◌≡◌ {A = ℕ} 0 1 = cc in absurd (omega arith)
-principals_alike ps (Both x y) (Both u v) told e = let p = told x u (omega arith) (omega arith) (cc) in let q = told y v (omega arith) (omega arith) (cc) in cc
-principals_alike ps (Both x y) (Quoting u v) told e = let z : ◌≡◌ {A = ℕ} 0 1 = cc in absurd (omega arith)
-principals_alike ps (Quoting x y) (Atom u) told e = let z : ◌≡◌ {A = ℕ} 0 1 = cc in absurd (omega arith)
-principals_alike ps (Quoting x y) (Both u v) told e = let z : ◌≡◌ {A = ℕ} 0 1 = cc in absurd (omega arith)
-principals_alike ps (Quoting x y) (Quoting u v) told e = let p = told x u (omega arith) (omega arith) (cc) in let q = told y v (omega arith) (omega arith) (cc) in cc
+principals_alike ps r s told e = grind (arith, common_steps, told)
 
 pub principals_apart : (rows : List PrincipalRow) → Distinct rows → PartsEarlier principal_needs rows → (i j : ℕ) (p : Principal) → slice_get (principals_written rows) i ≡ Some p → slice_get (principals_written rows) j ≡ Some p → i ≡ j
 principals_apart rows distinct earlier =
@@ -62,31 +53,7 @@ principals_apart rows distinct earlier =
 -- statements whose principals can be told
 module _ (ps : List Principal) (told-principals : Told ps (atom 0) (length ps) (length ps)) where
   statements_alike : (ss : List Statement) (r s : StatementRow) → principals_needed r ≤ length ps → principals_needed s ≤ length ps → Told ss (request 0) (statement_needs r) (statement_needs s) → statement_of ps ss r ≡ statement_of ps ss s → r ≡ s
-  statements_alike ss (Request x) (Request u) m n told e = cc
-  statements_alike ss (Request x) (Not u) m n told e = let z : ◌≡◌ {A = ℕ} 0 1 = cc in absurd (omega arith)
-  statements_alike ss (Request x) (And u v) m n told e = let z : ◌≡◌ {A = ℕ} 0 1 = cc in absurd (omega arith)
-  statements_alike ss (Request x) (Says u v) m n told e = let z : ◌≡◌ {A = ℕ} 0 1 = cc in absurd (omega arith)
-  statements_alike ss (Request x) (SpeaksFor u v) m n told e = let z : ◌≡◌ {A = ℕ} 0 1 = cc in absurd (omega arith)
-  statements_alike ss (Not x) (Request u) m n told e = let z : ◌≡◌ {A = ℕ} 0 1 = cc in absurd (omega arith)
-  statements_alike ss (Not x) (Not u) m n told e = let p = told x u (omega arith) (omega arith) (cc) in cc
-  statements_alike ss (Not x) (And u v) m n told e = let z : ◌≡◌ {A = ℕ} 0 1 = cc in absurd (omega arith)
-  statements_alike ss (Not x) (Says u v) m n told e = let z : ◌≡◌ {A = ℕ} 0 1 = cc in absurd (omega arith)
-  statements_alike ss (Not x) (SpeaksFor u v) m n told e = let z : ◌≡◌ {A = ℕ} 0 1 = cc in absurd (omega arith)
-  statements_alike ss (And x y) (Request u) m n told e = let z : ◌≡◌ {A = ℕ} 0 1 = cc in absurd (omega arith)
-  statements_alike ss (And x y) (Not u) m n told e = let z : ◌≡◌ {A = ℕ} 0 1 = cc in absurd (omega arith)
-  statements_alike ss (And x y) (And u v) m n told e = let p = told x u (omega arith) (omega arith) (cc) in let q = told y v (omega arith) (omega arith) (cc) in cc
-  statements_alike ss (And x y) (Says u v) m n told e = let z : ◌≡◌ {A = ℕ} 0 1 = cc in absurd (omega arith)
-  statements_alike ss (And x y) (SpeaksFor u v) m n told e = let z : ◌≡◌ {A = ℕ} 0 1 = cc in absurd (omega arith)
-  statements_alike ss (Says x y) (Request u) m n told e = let z : ◌≡◌ {A = ℕ} 0 1 = cc in absurd (omega arith)
-  statements_alike ss (Says x y) (Not u) m n told e = let z : ◌≡◌ {A = ℕ} 0 1 = cc in absurd (omega arith)
-  statements_alike ss (Says x y) (And u v) m n told e = let z : ◌≡◌ {A = ℕ} 0 1 = cc in absurd (omega arith)
-  statements_alike ss (Says x y) (Says u v) m n told e = let p = told-principals x u (omega arith) (omega arith) (cc) in let q = told y v (omega arith) (omega arith) (cc) in cc
-  statements_alike ss (Says x y) (SpeaksFor u v) m n told e = let z : ◌≡◌ {A = ℕ} 0 1 = cc in absurd (omega arith)
-  statements_alike ss (SpeaksFor x y) (Request u) m n told e = let z : ◌≡◌ {A = ℕ} 0 1 = cc in absurd (omega arith)
-  statements_alike ss (SpeaksFor x y) (Not u) m n told e = let z : ◌≡◌ {A = ℕ} 0 1 = cc in absurd (omega arith)
-  statements_alike ss (SpeaksFor x y) (And u v) m n told e = let z : ◌≡◌ {A = ℕ} 0 1 = cc in absurd (omega arith)
-  statements_alike ss (SpeaksFor x y) (Says u v) m n told e = let z : ◌≡◌ {A = ℕ} 0 1 = cc in absurd (omega arith)
-  statements_alike ss (SpeaksFor x y) (SpeaksFor u v) m n told e = let p = told-principals x u (omega arith) (omega arith) (cc) in let q = told-principals y v (omega arith) (omega arith) (cc) in cc
+  statements_alike ss r s m n told e = grind (arith, common_steps, told, told-principals)
 
 pub statements_apart : (principals : List PrincipalRow) (rows : List StatementRow) → Distinct principals → PartsEarlier principal_needs principals → Distinct rows → PartsEarlier statement_needs rows → PartsNamed principals_needed (length principals) rows → (i j : ℕ) (s : Statement) → slice_get (statements_written (principals_written principals) rows) i ≡ Some s → slice_get (statements_written (principals_written principals) rows) j ≡ Some s → i ≡ j
 statements_apart principals rows distinct-principals earlier-principals distinct earlier named =

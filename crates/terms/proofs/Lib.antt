@@ -1,5 +1,4 @@
 pub mod Nths
-pub mod Positions
 pub mod TableLaws
 pub mod Settling
 pub mod Writing

@@ -1,13 +1,8 @@
 -- The n-th element of a list, as an option.
-use Rattle.std.proofs.Common.{◌≡◌, ℕ, zero, suc, ◌<◌, ◌⊎◌, List, [], ◌∷◌, ◌++◌, length, Some, refl, ap, inl, inr, suc-le-suc, zero-le, arith}
+use Rattle.std.proofs.Common.{◌≡◌, ℕ, zero, suc, ◌<◌, ◌⊎◌, List, [], ◌∷◌, ◌++◌, length, Some, refl, ap, inl, inr, arith}
 use Rattle.std.specs.List.{slice_get}
 
 module _ {X : Type 0} where
-  pub nth_below : (xs : List X) (i : ℕ) (x : X) → slice_get xs i ≡ Some x → i < length xs
-  nth_below [] i x e = let z : ◌≡◌ {A = ℕ} 0 1 = cc in absurd (omega arith)
-  nth_below (y ∷ ys) zero x e = suc-le-suc zero-le
-  nth_below (y ∷ ys) (suc i) x e = suc-le-suc (nth_below ys i x e)
-
   pub nth_some : (xs : List X) (i : ℕ) → i < length xs → (x : X) × (slice_get xs i ≡ Some x)
   nth_some [] i h = absurd (omega arith)
   nth_some (y ∷ ys) zero h = (y, refl)
@@ -25,7 +20,7 @@ module _ {X : Type 0} where
   -- an element of a list with one more is an old one or the last
   pub nth_push : (xs : List X) (y : X) (i : ℕ) (x : X) → slice_get (xs ++ (y ∷ [])) i ≡ Some x → (slice_get xs i ≡ Some x) ⊎ ((i ≡ length xs) × (x ≡ y))
   nth_push [] y zero x e = inr (refl, cc)
-  nth_push [] y (suc i) x e = let z : ◌≡◌ {A = ℕ} 0 1 = cc in absurd (omega arith)
+  nth_push [] y (suc i) x e = cc
   nth_push (z ∷ xs) y zero x e = inl e
   nth_push (z ∷ xs) y (suc i) x e =
       elim (nth_push xs y i x e) [ inl h ↦ inl h | inr h ↦ inr (ap suc h.0, h.1) ]

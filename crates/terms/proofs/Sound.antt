@@ -1,19 +1,20 @@
 -- The tables are sound, naming keeps them so, and it is lawful.
 use Rattle.std.proofs.Common.{◌≡◌, ℕ, ◌≤◌, ltb, List, [], ◌∷◌, ◌++◌, length, take, IfOk, Some, None, Ok, Err, Option, Result, refl, ap, ◌∙◌, inl, inr, arith, ltb-true}
-use Rattle.std.specs.List.{slice_get}
+use Rattle.std.specs.List.{position, slice_get}
 use Rattle.std.proofs.lemmas.List.{length_push, length-take-le}
 use Rattle.std.proofs.lemmas.Bool.{cond_both}
+use Rattle.std.proofs.lemmas.Option.{slice_get_within}
 use Rattle.denials.specs.declared.denial.Denial.{Denial}
 use Rattle.terms.specs.declared.names.Names.{Names}
 use Rattle.terms.specs.declared.row.PrincipalRow.{PrincipalRow}
 use Rattle.terms.specs.declared.row.StatementRow.{StatementRow}
 use Rattle.terms.specs.Rows.{principal_form, principal_x, principal_y, principal_determined, statement_form, statement_x, statement_y, statement_determined}
-use Rattle.terms.specs.Naming.{same, position, put_answer, put_after, answered, left, read_principal, read_statement, principal_after, statement_after, same_principal, same_statement}
+use Rattle.terms.specs.Naming.{same, put_answer, put_after, answered, left, read_principal, read_statement, principal_after, statement_after, same_principal, same_statement}
 use Rattle.terms.specs.Tables.{Distinct, Every, PartsNamed, principal_needs, statement_needs, principals_needed}
 use Rattle.terms.specs.Written.{Principal, Statement, Rows, principal_of, statement_of, principals_written, statements_written}
 use Rattle.terms.specs.Laws.{OneMore, Stay, Apart, Answered, LawfulNaming, SoundRows, principal_name, principal_named, statement_name, statement_named}
 use Rattle.terms.specs.Named.{rows_of}
-use Rattle.terms.proofs.Nths.{nth_below, nth_append_left}
+use Rattle.terms.proofs.Nths.{nth_append_left}
 use Rattle.terms.proofs.TableLaws.{distinct_put, every_put, read_principal_needs, read_statement_needs}
 use Rattle.terms.proofs.Writing.{length_written, write_out_push, statements_stay_above}
 use Rattle.terms.proofs.Apart.{principals_apart, statements_apart}
@@ -115,12 +116,12 @@ sound_apart t sound =
 principals_stay : (before after : List PrincipalRow) → OneMore before after → (n : ℕ) (p : Principal) → slice_get (principals_written before) n ≡ Some p → slice_get (principals_written after) n ≡ Some p
 principals_stay before after (inl e) n p h = ap (λ rows. slice_get (principals_written rows) n) e ∙ h
 principals_stay before after (inr s) n p h =
-    ap (λ rows. slice_get (principals_written rows) n) s.1 ∙ ap (λ terms. slice_get terms n) (write_out_push principal_of [] before s.0) ∙ nth_append_left (principals_written before) _ n (nth_below (principals_written before) n p h) ∙ h
+    ap (λ rows. slice_get (principals_written rows) n) s.1 ∙ ap (λ terms. slice_get terms n) (write_out_push principal_of [] before s.0) ∙ nth_append_left (principals_written before) _ n (slice_get_within (principals_written before) n p h) ∙ h
 
 statements_stay : (terms : List Principal) (before after : List StatementRow) → OneMore before after → (n : ℕ) (s : Statement) → slice_get (statements_written terms before) n ≡ Some s → slice_get (statements_written terms after) n ≡ Some s
 statements_stay terms before after (inl e) n s h = ap (λ rows. slice_get (statements_written terms rows) n) e ∙ h
 statements_stay terms before after (inr m) n s h =
-    ap (λ rows. slice_get (statements_written terms rows) n) m.1 ∙ ap (λ all. slice_get all n) (write_out_push (statement_of terms) [] before m.0) ∙ nth_append_left (statements_written terms before) _ n (nth_below (statements_written terms before) n s h) ∙ h
+    ap (λ rows. slice_get (statements_written terms rows) n) m.1 ∙ ap (λ all. slice_get all n) (write_out_push (statement_of terms) [] before m.0) ∙ nth_append_left (statements_written terms before) _ n (slice_get_within (statements_written terms before) n s h) ∙ h
 
 statements_stay_by : (before after : List PrincipalRow) (rows : List StatementRow) → OneMore before after → PartsNamed principals_needed (length before) rows → statements_written (principals_written after) rows ≡ statements_written (principals_written before) rows
 statements_stay_by before after rows (inl e) named = ap (λ l. statements_written (principals_written l) rows) e

@@ -1,44 +1,34 @@
 -- Putting a row in keeps what always holds of a table.
-use Rattle.std.proofs.Common.{◌≡◌, ℕ, zero, suc, ◌<◌, ◌≤◌, Bool, true, false, cond, ◌&&◌, eqb, ltb, List, [], ◌∷◌, ◌++◌, length, IfOk, Some, None, Ok, Err, Option, Result, sym, refl, ap, ◌∙◌, subst, inl, inr, arith, ltb-true, eq-eqb, eqb-true}
-use Rattle.std.specs.List.{slice_get}
-use Rattle.std.proofs.lemmas.Bool.{and_parts, and_from, cond_both, true≢false}
-use Rattle.denials.specs.declared.denial.Denial.{Denial}
-use Rattle.terms.specs.declared.row.PrincipalRow.{PrincipalRow}
-use Rattle.terms.specs.declared.row.PrincipalRow.TheVariants.{Atom, Both, Quoting}
-use Rattle.terms.specs.declared.row.StatementRow.{StatementRow}
-use Rattle.terms.specs.declared.row.StatementRow.TheVariants.{Request, Not, And, Says, SpeaksFor}
-use Rattle.denials.specs.Denials.{denied}
+use Rattle.std.proofs.Common.{◌≡◌, ℕ, ◌<◌, ◌≤◌, Bool, true, false, cond, ltb, List, [], ◌∷◌, ◌++◌, length, IfOk, Some, None, Option, sym, ap, ◌∙◌, subst, inl, inr, arith}
+use Rattle.std.specs.List.{position, position_or_len, slice_get}
+use Rattle.std.proofs.lemmas.Bool.Decides.{nat_tests}
+use Rattle.std.proofs.lemmas.Grind.{common_steps}
+use Rattle.std.proofs.lemmas.List.Sums.{fails_before_first}
+use Rattle.std.proofs.lemmas.Option.{get_or_from_slice_get, slice_get_within}
+use Rattle.std.proofs.lemmas.Bool.{cond_both, true≢false}
 use Rattle.terms.specs.Rows.{Determined}
-use Rattle.terms.specs.Naming.{same, position, further, put_after, with_operands, read_principal, read_statement}
+use Rattle.terms.specs.Naming.{same, put_after, read_principal, read_statement}
 use Rattle.terms.specs.Tables.{Distinct, Every, principal_needs, statement_needs, principals_needed}
-use Rattle.terms.proofs.Nths.{nth_below, nth_some, nth_push}
+use Rattle.terms.proofs.Nths.{nth_some, nth_push}
 
 -- a row has the same form and operands as itself, and as no other
 pub same_refl : {R : Type 0} (form x y : R → ℕ) (r : R) → same form x y r r ≡ true
-same_refl form x y r = and_from _ _ (eq-eqb (form r) (form r) refl) (and_from _ _ (eq-eqb (x r) (x r) refl) (eq-eqb (y r) (y r) refl))
+same_refl form x y r = grind (arith, common_steps)
 
 pub same_is : {R : Type 0} (form x y : R → ℕ) → Determined form x y → (a b : R) → same form x y a b ≡ true → a ≡ b
-same_is form x y determined a b e =
-    let parts = and_parts _ _ e in
-    let operands = and_parts _ _ parts.1 in
-    determined a b (eqb-true _ _ parts.0) (eqb-true _ _ operands.0) (eqb-true _ _ operands.1)
+same_is form x y determined a b e = grind (arith, common_steps, determined)
 
 -- what the search has not found stands nowhere
-further_none : (i : ℕ) (o : Option ℕ) → further i o ≡ None → o ≡ None
-further_none i None e = refl
-further_none i (Some n) e = cc
+past_all : (n m : ℕ) → cond (ltb n m) (Some n) None ≡ None → m ≤ n
+past_all n m e = grind (arith, nat_tests)
 
-pub position_step : {R : Type 0} (is : R → Bool) (x : R) (xs : List R) → position is (x ∷ xs) ≡ None → (is x ≡ false) × (position is xs ≡ None)
-position_step is x xs e = go (is x) refl e
-  where
-    go : (b : Bool) → is x ≡ b → cond b (Some 0) (further 1 (position is xs)) ≡ None → (is x ≡ false) × (position is xs ≡ None)
-    go true h none = let z : ◌≡◌ {A = ℕ} 0 1 = cc in absurd (omega arith)
-    go false h none = (h, further_none 1 (position is xs) none)
+pub none_past : {R : Type 0} (is : R → Bool) (rows : List R) → position is rows ≡ None → length rows ≤ position_or_len is rows
+none_past is rows none = past_all (position_or_len is rows) (length rows) none
 
-pub absent : {R : Type 0} (is : R → Bool) (rows : List R) (i : ℕ) (r : R) → position is rows ≡ None → slice_get rows i ≡ Some r → is r ≡ false
-absent is [] i r none e = let z : ◌≡◌ {A = ℕ} 0 1 = cc in absurd (omega arith)
-absent is (x ∷ xs) zero r none e = let h = position_step is x xs none in let s : x ≡ r = cc in subst (λ y. is y ≡ false) s h.0
-absent is (x ∷ xs) (suc i) r none e = absent is xs i r (position_step is x xs none).1 e
+absent : {R : Type 0} (is : R → Bool) (rows : List R) (i : ℕ) (r : R) → position is rows ≡ None → slice_get rows i ≡ Some r → is r ≡ false
+absent is rows i r none e =
+    let before : i < position_or_len is rows = omega (arith, slice_get_within rows i r e, none_past is rows none) in
+    ap is (sym (get_or_from_slice_get rows i r r e)) ∙ fails_before_first is rows i r before
 
 -- one more row
 distinct_push : {R : Type 0} (rows : List R) (r : R) → Distinct rows → ((i : ℕ) → slice_get rows i ≡ Some r → ⊥) → Distinct (rows ++ (r ∷ []))
@@ -47,7 +37,7 @@ distinct_push rows r distinct new i j h =
     let second : slice_get (rows ++ (r ∷ [])) j ≡ Some first.0 = sym h.1 ∙ first.1 in
     elim (nth_push rows r i first.0 first.1) [
       | inl old ↦ elim (nth_push rows r j first.0 second) [
-        | inl old' ↦ distinct i j (nth_below rows i first.0 old, old ∙ sym old')
+        | inl old' ↦ distinct i j (slice_get_within rows i first.0 old, old ∙ sym old')
         | inr last ↦ absurd (new i (old ∙ ap Some last.1))
       ]
       | inr last ↦ elim (nth_push rows r j first.0 second) [
@@ -56,19 +46,21 @@ distinct_push rows r distinct new i j h =
       ]
     ]
 
-every_push : {R : Type 0} (P : ℕ → R → Type 0) (rows : List R) (r : R) → Every P rows → P (length rows) r → Every P (rows ++ (r ∷ []))
+pub every_push : {R : Type 0} (P : ℕ → R → Type 0) (rows : List R) (r : R) → Every P rows → P (length rows) r → Every P (rows ++ (r ∷ []))
 every_push P rows r every here n s e =
     elim (nth_push rows r n s e) [
       | inl old ↦ every n s old
       | inr last ↦ subst (λ k. P k s) (sym last.0) (subst (λ q. P (length rows) q) (sym last.1) here)
     ]
 
+pub distinct_new : {R : Type 0} (form x y : R → ℕ) (rows : List R) (r : R) → position (same form x y r) rows ≡ None → Distinct rows → Distinct (rows ++ (r ∷ []))
+distinct_new form x y rows r none distinct =
+    distinct_push rows r distinct (λ i e. true≢false (sym (same_refl form x y r) ∙ absent (same form x y r) rows i r none e))
+
 pub distinct_put : {R : Type 0} (form x y : R → ℕ) (limit : ℕ) (rows : List R) (r : R) (at : Option ℕ) → position (same form x y r) rows ≡ at → Distinct rows → Distinct (put_after limit rows r at)
 distinct_put form x y limit rows r (Some n) found distinct = distinct
 distinct_put form x y limit rows r None found distinct =
-    cond_both (ltb (length rows) limit) _ _ Distinct
-    (λ _. distinct_push rows r distinct (λ i e. true≢false (sym (same_refl form x y r) ∙ absent (same form x y r) rows i r found e)))
-    (λ _. distinct)
+    cond_both (ltb (length rows) limit) _ _ Distinct (λ _. distinct_new form x y rows r found distinct) (λ _. distinct)
 
 pub every_put : {R : Type 0} (P : ℕ → R → Type 0) (limit : ℕ) (rows : List R) (r : R) (at : Option ℕ) → P (length rows) r → Every P rows → Every P (put_after limit rows r at)
 every_put P limit rows r (Some n) here every = every
@@ -76,31 +68,8 @@ every_put P limit rows r None here every =
     cond_both (ltb (length rows) limit) _ _ (Every P) (λ _. every_push P rows r every here) (λ _. every)
 
 -- what is read needs no more than is named
-pub fitting : {R : Type 0} (P : R → Type 0) (fit : Bool) (r : R) → (fit ≡ true → P r) → IfOk (with_operands fit r) P
-fitting P fit r h = cond_both fit (Ok r) (Err (denied 2 0)) (λ o. IfOk o P) h (λ _. tt)
-
-pub both_below : (x y a b : ℕ) → (ltb x a && ltb y b) ≡ true → (x < a) × (y < b)
-both_below x y a b e = let parts = and_parts _ _ e in (ltb-true x a parts.0, ltb-true y b parts.1)
-
-pub first_below : (x a : ℕ) (rest : Bool) → (ltb x a && rest) ≡ true → x < a
-first_below x a rest e = ltb-true x a (and_parts _ _ e).0
-
 pub read_principal_needs : (known form x y : ℕ) → IfOk (read_principal known form x y) (λ r. principal_needs r ≤ known)
-read_principal_needs known form x y =
-    let P : PrincipalRow → Type 0 = λ r. principal_needs r ≤ known in
-    let Q : Result PrincipalRow Denial → Type 0 = λ o. IfOk o P in
-    cond_both (eqb form 1) _ _ Q (λ _. fitting P _ (Atom x) (λ _. omega arith))
-    (λ _. cond_both (eqb form 2) _ _ Q (λ _. fitting P _ (Both x y) (λ e. omega (arith, both_below x y known known e)))
-    (λ _. cond_both (eqb form 3) _ _ Q (λ _. fitting P _ (Quoting x y) (λ e. omega (arith, both_below x y known known e)))
-    (λ _. tt)))
+read_principal_needs known form x y = grind (arith, common_steps)
 
 pub read_statement_needs : (principals known form x y : ℕ) → IfOk (read_statement principals known form x y) (λ r. (statement_needs r ≤ known) × (principals_needed r ≤ principals))
-read_statement_needs principals known form x y =
-    let P : StatementRow → Type 0 = λ r. (statement_needs r ≤ known) × (principals_needed r ≤ principals) in
-    let Q : Result StatementRow Denial → Type 0 = λ o. IfOk o P in
-    cond_both (eqb form 1) _ _ Q (λ _. fitting P _ (Request x) (λ _. omega arith))
-    (λ _. cond_both (eqb form 2) _ _ Q (λ _. fitting P _ (Not x) (λ e. omega (arith, first_below x known _ e)))
-    (λ _. cond_both (eqb form 3) _ _ Q (λ _. fitting P _ (And x y) (λ e. omega (arith, both_below x y known known e)))
-    (λ _. cond_both (eqb form 4) _ _ Q (λ _. fitting P _ (Says x y) (λ e. omega (arith, both_below x y principals known e)))
-    (λ _. cond_both (eqb form 5) _ _ Q (λ _. fitting P _ (SpeaksFor x y) (λ e. omega (arith, both_below x y principals principals e)))
-    (λ _. tt)))))
+read_statement_needs principals known form x y = grind (arith, common_steps)

@@ -1,6 +1,7 @@
 -- What rows write out to: a row writes out by its own parts, one more row leaves the earlier ones as they are, and rows that write out alike are one.
 use Rattle.std.proofs.Common.{◌≡◌, ℕ, zero, suc, ◌+◌, ◌<◌, ◌≤◌, List, [], ◌∷◌, ◌++◌, length, get_or, Some, unwrap_or, sym, refl, ap, ◌∙◌, arith}
 use Rattle.std.specs.List.{slice_get}
+use Rattle.std.proofs.lemmas.Option.{unwrap_or-slice_get}
 use Rattle.std.proofs.lemmas.List.{length_push}
 use Rattle.terms.specs.declared.row.PrincipalRow.{PrincipalRow}
 use Rattle.terms.specs.declared.row.PrincipalRow.TheVariants.{Atom, Both, Quoting}
@@ -10,13 +11,8 @@ use Rattle.terms.specs.Tables.{PartsEarlier, PartsNamed, principal_needs, statem
 use Rattle.terms.specs.Written.{Principal, atom, Statement, request, not, says, principal_of, statement_of, write_out, principals_written, statements_written}
 use Rattle.terms.proofs.Nths.{nth_append_left, nth_last}
 
-get_or_by_nth : {X : Type 0} (xs : List X) (n : ℕ) (d : X) → get_or xs n d ≡ unwrap_or (slice_get xs n) d
-get_or_by_nth [] n d = refl
-get_or_by_nth (x ∷ xs) zero d = refl
-get_or_by_nth (x ∷ xs) (suc n) d = get_or_by_nth xs n d
-
 same_at : {X : Type 0} (xs ys : List X) (n : ℕ) (d : X) → slice_get xs n ≡ slice_get ys n → get_or xs n d ≡ get_or ys n d
-same_at xs ys n d e = get_or_by_nth xs n d ∙ ap (λ o. unwrap_or o d) e ∙ sym (get_or_by_nth ys n d)
+same_at xs ys n d e = sym (unwrap_or-slice_get xs n d) ∙ ap (λ o. unwrap_or o d) e ∙ unwrap_or-slice_get ys n d
 
 -- writing one row out depends only on the terms that the row needs
 abbrev Depends : {R X : Type 0} → (List X → R → X) → (R → ℕ) → Type 0
@@ -40,7 +36,7 @@ module _ {R X : Type 0} (of : List X → R → X) where
       earlier_stay (e ++ (of e r ∷ [])) rs k (omega (arith, length_push e (of e r))) ∙ nth_append_left e (of e r ∷ []) k h
 
   pub row_writes : (needs : R → ℕ) → Depends of needs → (e : List X) (rows : List R) (n : ℕ) (r : R) → slice_get rows n ≡ Some r → needs r ≤ length e + n → slice_get (write_out of e rows) (length e + n) ≡ Some (of (write_out of e rows) r)
-  row_writes needs depends e [] n r found fits = let z : ◌≡◌ {A = ℕ} 0 1 = cc in absurd (omega arith)
+  row_writes needs depends e [] n r found fits = cc
   row_writes needs depends e (x ∷ xs) zero r found fits =
       let more = e ++ (of e x ∷ []) in
       let same : x ≡ r = cc in
@@ -54,22 +50,13 @@ module _ {R X : Type 0} (of : List X → R → X) where
 
 principal_depends : Depends principal_of principal_needs
 principal_depends e e' (Atom x) h = refl
-principal_depends e e' (Both x y) h =
-    let a = same_at e e' x (atom 0) (h x (omega arith)) in
-    let b = same_at e e' y (atom 0) (h y (omega arith)) in
-    cc
-principal_depends e e' (Quoting x y) h =
-    let a = same_at e e' x (atom 0) (h x (omega arith)) in
-    let b = same_at e e' y (atom 0) (h y (omega arith)) in
-    cc
+principal_depends e e' (Both x y) h = cc (same_at e e' x (atom 0) (h x (omega arith)), same_at e e' y (atom 0) (h y (omega arith)))
+principal_depends e e' (Quoting x y) h = cc (same_at e e' x (atom 0) (h x (omega arith)), same_at e e' y (atom 0) (h y (omega arith)))
 
 statement_depends : (ps : List Principal) → Depends (statement_of ps) statement_needs
 statement_depends ps e e' (Request x) h = refl
 statement_depends ps e e' (Not s) h = ap not (same_at e e' s (request 0) (h s (omega arith)))
-statement_depends ps e e' (And s t) h =
-    let a = same_at e e' s (request 0) (h s (omega arith)) in
-    let b = same_at e e' t (request 0) (h t (omega arith)) in
-    cc
+statement_depends ps e e' (And s t) h = cc (same_at e e' s (request 0) (h s (omega arith)), same_at e e' t (request 0) (h t (omega arith)))
 statement_depends ps e e' (Says p s) h = ap (says (get_or ps p (atom 0))) (same_at e e' s (request 0) (h s (omega arith)))
 statement_depends ps e e' (SpeaksFor p q) h = refl
 

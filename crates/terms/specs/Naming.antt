@@ -3,13 +3,13 @@
 -- read_principal known form x y              the principal's row that these numbers stand for, where `known` principals are named; denied 1: unknown form; denied 2: an operand out of range, naming no row, or not 0 where unused
 -- read_statement principals known form x y   the same for a statement, where `principals` principals and `known` statements are named
 -- same form x y a b                          whether the rows a and b have the same form and operands
--- position is rows                           the number of the first row that passes the test `is`
 -- put_answer limit rows at                   what putting a row into a table answers, where the row stands at `at`: its number, or that of a new last row; denied 3: the row is new and the table full
 -- put_after limit rows r at                  the table afterwards
 -- answered read f, left read rows f          what naming answers and leaves: a denial of reading leaves the table as it was
 -- principal_answer, principal_after          naming a principal
 -- statement_answer, statement_after          naming a statement
-use Rattle.std.specs.Prelude.{ℕ, ◌+◌, Bool, cond, ◌&&◌, List, [], ◌∷◌, ◌++◌, length, Some, None, Ok, Err, Option, Result, ◌==◌, nat_lt}
+use Rattle.std.specs.Prelude.{ℕ, Bool, cond, ◌&&◌, List, [], ◌∷◌, ◌++◌, length, Some, None, Ok, Err, Option, Result, ◌==◌, nat_lt}
+use Rattle.std.specs.List.{position}
 use Rattle.denials.specs.declared.denial.Denial.{Denial}
 use Rattle.terms.specs.declared.row.PrincipalRow.{PrincipalRow}
 use Rattle.terms.specs.declared.row.PrincipalRow.TheVariants.{Atom, Both, Quoting}
@@ -40,14 +40,6 @@ read_statement principals known form x y =
 
 abbrev pub same : {R : Type 0} → (R → ℕ) → (R → ℕ) → (R → ℕ) → R → R → Bool
 same form x y a b = form a == form b && (x a == x b && y a == y b)
-
-abbrev pub further : ℕ → Option ℕ → Option ℕ
-further i None = None
-further i (Some n) = Some (i + n)
-
-abbrev pub position : {R : Type 0} → (R → Bool) → List R → Option ℕ
-position is [] = None
-position is (r ∷ rs) = cond (is r) (Some 0) (further 1 (position is rs))
 
 abbrev pub put_answer : {R : Type 0} → ℕ → List R → Option ℕ → Result ℕ Denial
 put_answer limit rows (Some n) = Ok n

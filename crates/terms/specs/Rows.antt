@@ -4,7 +4,7 @@
 -- statement_form r, statement_x r, statement_y r    the same of a statement's row
 -- Determined form x y                               rows with the same form and operands are the same row
 use Rattle.std.specs.Prelude.{◌≡◌, ℕ}
-use Rattle.std.proofs.Common.{arith}
+use Rattle.std.proofs.Common.{rules}
 use Rattle.terms.specs.declared.row.PrincipalRow.{PrincipalRow}
 use Rattle.terms.specs.declared.row.PrincipalRow.TheVariants.{Atom, Both, Quoting}
 use Rattle.terms.specs.declared.row.StatementRow.{StatementRow}
@@ -50,39 +50,7 @@ statement_y (Says x y) = y
 statement_y (SpeaksFor x y) = y
 
 pub principal_determined : Determined principal_form principal_x principal_y
-principal_determined (Atom x) (Atom u) f p q = cc
-principal_determined (Atom x) (Both u v) f p q = absurd (omega arith)
-principal_determined (Atom x) (Quoting u v) f p q = absurd (omega arith)
-principal_determined (Both x y) (Atom u) f p q = absurd (omega arith)
-principal_determined (Both x y) (Both u v) f p q = cc
-principal_determined (Both x y) (Quoting u v) f p q = absurd (omega arith)
-principal_determined (Quoting x y) (Atom u) f p q = absurd (omega arith)
-principal_determined (Quoting x y) (Both u v) f p q = absurd (omega arith)
-principal_determined (Quoting x y) (Quoting u v) f p q = cc
+principal_determined a b = search rules
 
 pub statement_determined : Determined statement_form statement_x statement_y
-statement_determined (Request x) (Request u) f p q = cc
-statement_determined (Request x) (Not u) f p q = absurd (omega arith)
-statement_determined (Request x) (And u v) f p q = absurd (omega arith)
-statement_determined (Request x) (Says u v) f p q = absurd (omega arith)
-statement_determined (Request x) (SpeaksFor u v) f p q = absurd (omega arith)
-statement_determined (Not x) (Request u) f p q = absurd (omega arith)
-statement_determined (Not x) (Not u) f p q = cc
-statement_determined (Not x) (And u v) f p q = absurd (omega arith)
-statement_determined (Not x) (Says u v) f p q = absurd (omega arith)
-statement_determined (Not x) (SpeaksFor u v) f p q = absurd (omega arith)
-statement_determined (And x y) (Request u) f p q = absurd (omega arith)
-statement_determined (And x y) (Not u) f p q = absurd (omega arith)
-statement_determined (And x y) (And u v) f p q = cc
-statement_determined (And x y) (Says u v) f p q = absurd (omega arith)
-statement_determined (And x y) (SpeaksFor u v) f p q = absurd (omega arith)
-statement_determined (Says x y) (Request u) f p q = absurd (omega arith)
-statement_determined (Says x y) (Not u) f p q = absurd (omega arith)
-statement_determined (Says x y) (And u v) f p q = absurd (omega arith)
-statement_determined (Says x y) (Says u v) f p q = cc
-statement_determined (Says x y) (SpeaksFor u v) f p q = absurd (omega arith)
-statement_determined (SpeaksFor x y) (Request u) f p q = absurd (omega arith)
-statement_determined (SpeaksFor x y) (Not u) f p q = absurd (omega arith)
-statement_determined (SpeaksFor x y) (And u v) f p q = absurd (omega arith)
-statement_determined (SpeaksFor x y) (Says u v) f p q = absurd (omega arith)
-statement_determined (SpeaksFor x y) (SpeaksFor u v) f p q = cc
+statement_determined a b = search rules

@@ -3,9 +3,9 @@
 
 pub mod names;
 mod naming;
-mod place;
 pub mod principals;
 mod read;
 pub mod row;
 pub mod statements;
 pub mod structures;
+pub mod table;

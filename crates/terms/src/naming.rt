@@ -19,8 +19,8 @@ impl Names {
         ensures statements { (rows_of result).statements ≡ [] }
     {
         Names {
-            principals: Principals::new(),
-            statements: Statements::new(),
+            principals: Principals::new(PrincipalRow::Atom(0)),
+            statements: Statements::new(StatementRow::Request(0)),
         }
     }
 
@@ -58,7 +58,8 @@ impl Names {
         ensures after { rows_of self.new ≡ principal_named (rows_of self.old) form x y }
         ensures lawful { LawfulNaming principal_form principal_x principal_y (λ t. t.principals) principal_name principal_named (rows_of self.old) form x y }
     {
-        self.principals.name(form, x, y)
+        let row = PrincipalRow::read(self.principals.count(), form, x, y)?;
+        self.principals.put(row)
     }
 
     // Names a statement by its form and operands, and answers its number.
@@ -68,6 +69,8 @@ impl Names {
         ensures lawful { LawfulNaming statement_form statement_x statement_y (λ t. t.statements) statement_name statement_named (rows_of self.old) form x y }
     {
         let principals = self.principals.count();
-        self.statements.name(principals, form, x, y)
+        let known = self.statements.count();
+        let row = StatementRow::read(principals, known, form, x, y)?;
+        self.statements.put(row)
     }
 }

@@ -1,9 +1,12 @@
 // The rows of the two tables: a principal or a statement as a form and two operands.
 ghost use Rattle.std.specs.Prelude.{◌≡◌, ℕ};
+ghost use Rattle.std.proofs.Common.{rules};
+ghost use Rattle.terms.specs.Naming.{same};
 ghost use Rattle.terms.specs.Rows.{Determined, principal_form, principal_x, principal_y, principal_determined, statement_form, statement_x, statement_y, statement_determined};
+ghost use Rattle.terms.specs.Tables.{principal_needs, statement_needs};
 
 // A principal: an atomic one by its number, P & Q, or P | Q (P quoting Q). The operands of the last two are earlier rows of the same table.
-#[derive(Clone, Copy)]
+#[derive(Clone, Copy, PartialEq, Eq)]
 pub enum PrincipalRow {
     Atom(u16),
     Both(u16, u16),
@@ -11,7 +14,7 @@ pub enum PrincipalRow {
 }
 
 // A statement: an atomic request by its number, not s, s and t, P says s, or P speaks for Q.
-#[derive(Clone, Copy)]
+#[derive(Clone, Copy, PartialEq, Eq)]
 pub enum StatementRow {
     Request(u16),
     Not(u16),
@@ -21,7 +24,10 @@ pub enum StatementRow {
 }
 
 // What the two kinds of rows share: each is told by its form and its operands, of which an unused one is 0.
-pub trait Row: Copy {
+pub trait Row: Copy + Eq {
+    // How many rows of the same kind have to be named before this one: one more than its highest part.
+    ghost needs: { Self → ℕ };
+
     ghost form: { Self → ℕ };
 
     ghost x: { Self → ℕ };
@@ -39,9 +45,14 @@ pub trait Row: Copy {
 
     fn y(self) -> u16
         ensures { result ≡ y self };
+
+    // Rows are compared by form and operands.
+    ghost compared: { (a b : Self) → Self.PartialEq.eq a b ≡ same form x y a b };
 }
 
 impl Row for PrincipalRow {
+    ghost needs = { principal_needs };
+
     ghost form = { principal_form };
 
     ghost x = { principal_x };
@@ -70,9 +81,13 @@ impl Row for PrincipalRow {
             PrincipalRow::Both(_, y) | PrincipalRow::Quoting(_, y) => y,
         }
     }
+
+    ghost compared = { λ a b. Prim.search rules };
 }
 
 impl Row for StatementRow {
+    ghost needs = { statement_needs };
+
     ghost form = { statement_form };
 
     ghost x = { statement_x };
@@ -104,4 +119,6 @@ impl Row for StatementRow {
             StatementRow::And(_, y) | StatementRow::Says(_, y) | StatementRow::SpeaksFor(_, y) => y,
         }
     }
+
+    ghost compared = { λ a b. Prim.search rules };
 }
