@@ -5,6 +5,7 @@ ghost use Rattle.denials.specs.Denials.{number, origin, reasons, count_up, denie
 use std::error::Error;
 
 // Every reason for which a call of the gate can be denied. A variant's value is the reason's number.
+// `Debug` is what an error needs; nothing compares reasons, origins or denials, so none of them derives `PartialEq`.
 #[derive(Clone, Copy, Debug)]
 pub enum Reason {
     UnknownForm = 1,
@@ -62,7 +63,7 @@ pub struct Denial {
 impl Error for Denial {}
 
 impl Reason {
-    // The reason's number, 1 to 34.
+    // The reason's number, 1 to 34. `u8::from` would be no plainer: this method is the only cast, and its clause is on all reasons.
     pub fn number(self) -> u8
         ensures answer { result ≡ number self }
         ensures numbered { map number reasons ≡ count_up 1 34 }
@@ -70,7 +71,7 @@ impl Reason {
         self as u8
     }
 
-    // Where the reason comes from.
+    // Where the reason comes from. What the other parts do not say, the gate itself says.
     pub fn origin(self) -> Origin
         ensures answer { result ≡ origin self }
     {

@@ -14,7 +14,7 @@ pub fn number(high: u8, low: u8) -> u16
     u16::from_be_bytes([high, low])
 }
 
-// The head of a file of one of these kinds. A kind is any byte, since only the caller knows which there are.
+// The head of a file of one of these kinds.
 pub fn read_head(bytes: &[u8], kinds: &[u8]) -> Result<Head, Denial>
     ensures answer { result ≡ head_read kinds.now bytes.now }
     ensures exactly { HeadExactly }
