@@ -1,9 +1,12 @@
 // How a call says no: a reason with a fixed number, a place, and the part of the machine that it comes from.
 ghost use Rattle.std.specs.Prelude.{◌≡◌, map};
-ghost use Rattle.denials.specs.Denials.{number, origin, reasons, count_up};
+ghost use Rattle.denials.specs.Denials.{number, origin, reasons, count_up, denied};
+
+use std::error::Error;
 
 // Every reason for which a call of the gate can be denied. A variant's value is the reason's number.
-#[derive(Clone, Copy)]
+// `Debug` is what an error needs; nothing compares reasons, origins or denials, so none of them derives `PartialEq`.
+#[derive(Clone, Copy, Debug)]
 pub enum Reason {
     UnknownForm = 1,
     BadOperand = 2,
@@ -51,14 +54,16 @@ pub enum Origin {
 }
 
 // A denial: why, and at which place (a serial, a byte, a line or a row; 0 where no place is stated).
-#[derive(Clone, Copy)]
+#[derive(Clone, Copy, Debug)]
 pub struct Denial {
     pub reason: Reason,
     pub place: u64,
 }
 
+impl Error for Denial {}
+
 impl Reason {
-    // The reason's number, 1 to 34.
+    // The reason's number, 1 to 34. `u8::from` would be no plainer: this method is the only cast, and its clause is on all reasons.
     pub fn number(self) -> u8
         ensures answer { result ≡ number self }
         ensures numbered { map number reasons ≡ count_up 1 34 }
@@ -66,15 +71,45 @@ impl Reason {
         self as u8
     }
 
-    // Where the reason comes from.
+    // Where the reason comes from. What the other parts do not say, the gate itself says.
     pub fn origin(self) -> Origin
         ensures answer { result ≡ origin self }
     {
-        match self.number() {
-            6..=9 | 11 | 30 | 31 | 34 => Origin::Book,
-            14..=19 | 27 | 28 => Origin::File,
-            20..=26 => Origin::Line,
+        match self {
+            Reason::SerialZero
+            | Reason::SerialBarred
+            | Reason::SerialLive
+            | Reason::NoFreePlace
+            | Reason::NotLive
+            | Reason::EntryNotNamed
+            | Reason::EntryFails
+            | Reason::SheetFull => Origin::Book,
+            Reason::NoMark
+            | Reason::WrongVersion
+            | Reason::WrongKind
+            | Reason::RequestNotNamed
+            | Reason::CountOutOfRange
+            | Reason::WrongLength
+            | Reason::TooManyAtoms
+            | Reason::NoSuchWorld => Origin::File,
+            Reason::AlreadyComplete
+            | Reason::UnknownCode
+            | Reason::NoSuchOperand
+            | Reason::NoLiveEntry
+            | Reason::NeedsDoNotFit
+            | Reason::NoPlace
+            | Reason::BranchOpen => Origin::Line,
             _ => Origin::Gate,
+        }
+    }
+
+    // The denial for this reason at a place.
+    pub fn at(self, place: u64) -> Denial
+        ensures answer { result ≡ denied (number self) place }
+    {
+        Denial {
+            reason: self,
+            place,
         }
     }
 }

@@ -11,7 +11,8 @@
 -- long_as n bytes           done, if there are n bytes in all (else denied 19, byte 10)
 -- Headed kind r n bytes     the file begins with a head of this kind, request and count
 -- HeadExactly               a head is read just where the file begins with a head of one of the kinds
-use Rattle.std.specs.Prelude.{◌≡◌, ℕ, ◌+◌, ◌*◌, ◌≤◌, Bool, true, false, cond, ◌&&◌, List, [], ◌∷◌, length, Ok, Err, Result, ◌==◌, nat_le, nat_lt, slice_index}
+use Rattle.std.specs.Prelude.{◌≡◌, ℕ, ◌+◌, ◌*◌, ◌≤◌, Bool, true, cond, ◌&&◌, List, length, Ok, Err, Result, ◌==◌, nat_le, nat_lt, slice_index}
+use Rattle.std.specs.List.{list_any}
 use Rattle.denials.specs.declared.denial.Denial.{Denial}
 use Rattle.denials.specs.Denials.{denied}
 use Rattle.files.specs.declared.head.Head.{Head}
@@ -26,8 +27,7 @@ abbrev pub marked : List ℕ → Bool
 marked bytes = nat_le 10 (length bytes) && (byte bytes 0 == 80 && (byte bytes 1 == 77 && byte bytes 2 == 84))
 
 abbrev pub among : List ℕ → ℕ → Bool
-among [] k = false
-among (x ∷ xs) k = cond (x == k) true (among xs k)
+among kinds k = list_any (λ x. x == k) kinds
 
 abbrev pub head_at : List ℕ → Head
 head_at bytes = record { kind = byte bytes 5; request = number bytes 6; count = number bytes 8 }

@@ -2,6 +2,7 @@
 use Rattle.std.proofs.Common.{◌≡◌, ℕ, zero, suc, ◌+◌, ◌*◌, ◌<◌, ◌≤◌, Bool, true, false, cond, ◌&&◌, eqb, ltb, leb, List, [], ◌∷◌, length, Some, None, Ok, Err, Result, sym, refl, ap, ◌∙◌, subst, arith}
 use Rattle.std.specs.List.{slice_get}
 use Rattle.std.proofs.lemmas.Bool.{and_parts, and_from, leb-true, le-leb, ltb-true, lt-ltb, eqb-true, eq-eqb, cond-true, cond-false}
+use Rattle.std.proofs.lemmas.Bool.Decides.{nat_tests}
 use Rattle.denials.specs.declared.denial.Denial.{Denial}
 use Rattle.denials.specs.Denials.{denied}
 use Rattle.files.specs.declared.head.Head.{Head}
@@ -113,11 +114,7 @@ lines_are bytes i (l ∷ ls) each =
     cc
 
 among_one : (k : ℕ) → among (1 ∷ []) k ≡ true → k ≡ 1
-among_one k e = go (eqb 1 k) refl e
-  where
-    go : (b : Bool) → eqb 1 k ≡ b → cond b true false ≡ true → k ≡ 1
-    go true is h = sym (eqb-true 1 k is)
-    go false is h = let z : ◌≡◌ {A = ℕ} 0 1 = cc in absurd (omega arith)
+among_one k e = grind (arith, nat_tests)
 
 -- what is read off a proof file that is laid out right
 record Read (most named : ℕ) (bytes : List ℕ) (p : Reading) : Type 0 where
