@@ -1,9 +1,9 @@
 -- A file passes just when it keeps the rules within the limits.
-use Rattle.std.proofs.Common.{◌≡◌, ℕ, zero, suc, ◌+◌, ◌*◌, ◌<◌, ◌≤◌, Bool, true, false, cond, ◌&&◌, eqb, ltb, leb, List, [], ◌∷◌, length, Some, None, Ok, Err, Result, sym, refl, ap, ◌∙◌, subst, arith}
+use Rattle.std.proofs.Common.{◌≡◌, ℕ, zero, suc, ◌+◌, ◌*◌, ◌<◌, ◌≤◌, true, ◌&&◌, eqb, ltb, leb, List, [], ◌∷◌, length, Some, Ok, sym, refl, ap, ◌∙◌, subst, arith}
 use Rattle.std.specs.List.{slice_get}
-use Rattle.std.proofs.lemmas.Bool.{and_parts, and_from, leb-true, le-leb, ltb-true, lt-ltb, eqb-true, eq-eqb, cond-true, cond-false}
+use Rattle.std.proofs.lemmas.Bool.{and_parts, and_from, leb-true, le-leb, ltb-true, lt-ltb, eqb-true, eq-eqb, cond-true}
+use Rattle.std.proofs.lemmas.Bool.Decides.{nat_tests}
 use Rattle.std.proofs.lemmas.Option.{same_Some}
-use Rattle.denials.specs.declared.denial.Denial.{Denial}
 use Rattle.denials.specs.Denials.{denied}
 use Rattle.files.specs.declared.head.Head.{Head}
 use Rattle.files.specs.Heads.{among, head_read, request_named, count_within, long_as, Headed}
@@ -17,8 +17,8 @@ use Rattle.rules.specs.Fits.{effect}
 use Rattle.rules.specs.Shapes.{shaped, takes}
 use Rattle.soundness.specs.Given.{Given}
 use Rattle.soundness.specs.Rules.{Allows, Completes}
-use Rattle.soundness.specs.Walking.{Limits, Held, Within, ForksFit, Roomy, sizes, on, further, line_move, roomy, line_walked, lines_walked}
-use Rattle.soundness.specs.ProofFiles.{line_at, lines_from, lines_passed, Reading, proof_read, walked, Keeps}
+use Rattle.soundness.specs.Walking.{Limits, Held, Within, ForksFit, Roomy, sizes, further, line_move, roomy, line_walked, lines_walked}
+use Rattle.soundness.specs.ProofFiles.{line_at, lines_from, Reading, proof_read, walked, Keeps}
 use Rattle.soundness.specs.Laws.{PassesExactly}
 use Rattle.soundness.proofs.Allowed.{allowed_walks}
 use Rattle.soundness.proofs.Inversions.{on_some, further_ok, cond_ok}
@@ -32,36 +32,17 @@ takes_up g b l s m n shapes moves =
     let shape : w.shape ≡ s = same_Some _ _ (sym w.shaped_so ∙ shapes) in
     ap (λ t. takes t.rule) (sym shape) ∙ w.takes_up
 
--- what walking a line answers, stage by stage
-module _ (lim : Limits) (g : Given) (b : Branch) (fs : List Fork) (l : Line) (n : ℕ) where
-  abbrev in_room : Shape → Move → Result Progress Denial
-  in_room s m = cond (roomy lim b fs (takes s.rule)) (Ok (moved b fs (effect m))) (Err (denied 25 n))
-
-  abbrev with_shape : Shape → Result Progress Denial
-  with_shape s = further (line_move g b s l n) (in_room s)
-
-  pub shapeless : shaped l ≡ None → line_walked lim g b fs l n ≡ Err (denied 21 n)
-  shapeless none = ap (λ o. on (denied 21 n) o with_shape) none
-
-  pub moveless : (s : Shape) (d : Denial) → shaped l ≡ Some s → line_move g b s l n ≡ Err d → line_walked lim g b fs l n ≡ Err d
-  moveless s d shapes denies = ap (λ o. on (denied 21 n) o with_shape) shapes ∙ ap (λ r. further r (in_room s)) denies
-
-  pub roomless : (s : Shape) (m : Move) → shaped l ≡ Some s → line_move g b s l n ≡ Ok m → roomy lim b fs (takes s.rule) ≡ false → line_walked lim g b fs l n ≡ Err (denied 25 n)
-  roomless s m shapes moves full = ap (λ o. on (denied 21 n) o with_shape) shapes ∙ ap (λ r. further r (in_room s)) moves ∙ cond-false _ _ _ full
-
-  pub moving : (s : Shape) (m : Move) → shaped l ≡ Some s → line_move g b s l n ≡ Ok m → roomy lim b fs (takes s.rule) ≡ true → line_walked lim g b fs l n ≡ Ok (moved b fs (effect m))
-  moving s m shapes moves room = ap (λ o. on (denied 21 n) o with_shape) shapes ∙ ap (λ r. further r (in_room s)) moves ∙ cond-true _ _ _ room
+-- what walking a line answers where all goes well
+pub moving : (lim : Limits) (g : Given) (b : Branch) (fs : List Fork) (l : Line) (n : ℕ) (s : Shape) (m : Move) → shaped l ≡ Some s → line_move g b s l n ≡ Ok m → roomy lim b fs (takes s.rule) ≡ true → line_walked lim g b fs l n ≡ Ok (moved b fs (effect m))
+moving lim g b fs l n s m shapes moves room = simp (shapes, moves, room)
 
 -- one line
 module _ (lim : Limits) (g : Given) (b : Branch) (fs : List Fork) (l : Line) (n : ℕ) (held : Held lim b fs) where
   pub line_passes : (e : Effect) → Allows g b l e → Within lim (moved b fs e) → line_walked lim g b fs l n ≡ Ok (moved b fs e)
   line_passes e allowed within =
       let w = allowed_walks g b l e n allowed in
-      let m = w.move in
-      let after = subst (λ d. Within lim (moved b fs d)) w.does within in
-      let up : takes w.shape.rule ≡ sizes (effect m) = w.takes_up ∙ ap sizes w.does in
-      let room : roomy lim b fs (takes w.shape.rule) ≡ true = ap (roomy lim b fs) up ∙ room_from lim b fs (sizes (effect m)) (room_before lim b fs held m after) in
-      moving lim g b fs l n w.shape m w.shaped_so w.moves room ∙ ap (λ d. Ok (moved b fs d)) (sym w.does)
+      let room : roomy lim b fs (takes w.shape.rule) ≡ true = ap (roomy lim b fs) w.takes_up ∙ room_from lim b fs (sizes e) (room_before lim b fs held e within) in
+      moving lim g b fs l n w.shape w.move w.shaped_so w.moves room ∙ ap (λ d. Ok (moved b fs d)) (sym w.does)
 
   pub line_passed : (p : Progress) → ForksFit lim fs → line_walked lim g b fs l n ≡ Ok p → (e : Effect) × (Allows g b l e × ((p ≡ moved b fs e) × (Within lim p × Roomy lim p)))
   line_passed p fit e =
@@ -114,11 +95,7 @@ lines_are bytes i (l ∷ ls) each =
     cc
 
 among_one : (k : ℕ) → among (1 ∷ []) k ≡ true → k ≡ 1
-among_one k e = go (eqb 1 k) refl e
-  where
-    go : (b : Bool) → eqb 1 k ≡ b → cond b true false ≡ true → k ≡ 1
-    go true is h = sym (eqb-true 1 k is)
-    go false is h = cc
+among_one k e = grind (arith, nat_tests)
 
 -- what is read off a proof file that is laid out right
 record Read (most named : ℕ) (bytes : List ℕ) (p : Reading) : Type 0 where
@@ -159,10 +136,7 @@ reads most named bytes p read =
     let row : request_named named h ≡ Ok r = cond-true _ _ _ (lt-ltb r named read.known) in
     let count : count_within most h ≡ Ok n = cond-true _ _ _ (and_from _ _ (le-leb 1 n read.some) (le-leb n most read.few)) in
     let long : long_as (10 + 7 * n) bytes ≡ Ok tt = cond-true _ _ _ (eq-eqb _ _ read.long) in
-    ap (λ x. further x (λ h. further (request_named named h) (λ q. further (count_within most h) (λ c. further (long_as (10 + 7 * c) bytes) (λ _. Ok (record { request = q; lines = c })))))) head ∙
-    ap (λ x. further x (λ q. further (count_within most h) (λ c. further (long_as (10 + 7 * c) bytes) (λ _. Ok (record { request = q; lines = c }))))) row ∙
-    ap (λ x. further x (λ c. further (long_as (10 + 7 * c) bytes) (λ _. Ok (record { request = r; lines = c })))) count ∙
-    ap (λ x. further x (λ _. Ok (record { request = r; lines = n }))) long
+    simp (head, row, count, long)
 
 pub passes_exactly : PassesExactly
 passes_exactly lim g bytes r some_world = (keeps, passes)
@@ -207,6 +181,4 @@ passes_exactly lim g bytes r some_world = (keeps, passes)
         let room : leb 1 lim.facts ≡ true = le-leb 1 lim.facts k.starts.facts in
         let lines : lines_from bytes 0 n ≡ k.lines = lines_are bytes 0 k.lines (λ i l at. ap (line_at bytes) (omega arith) ∙ d.each i l at) in
         let ran : lines_walked lim g 0 (going (start r) []) (lines_from bytes 0 n) ≡ Ok tt = ap (lines_walked lim g 0 (going (start r) [])) lines ∙ lines_pass lim g k.lines (going (start r) []) 0 k.starts k.completes in
-        ap (λ x. further x (λ p. lines_passed lim g bytes p.request p.lines)) read ∙
-        cond-true _ _ _ room ∙
-        ap (λ x. further x (λ _. Ok r)) ran
+        simp (read, room, ran)

@@ -10,7 +10,7 @@ use Rattle.rules.specs.declared.moves.Move.TheVariants.{AddFact, AddFacts, AddLi
 use Rattle.rules.specs.declared.branch.Side.{Side}
 use Rattle.rules.specs.declared.branch.Side.TheVariants as sides
 use Rattle.rules.specs.declared.table.Places.{Places}
-use Rattle.rules.specs.Branches.{Branch, branch, with_side, closed, adds, Progress, moved}
+use Rattle.rules.specs.Branches.{Branch, branch, with_side, closed, Effect, adds, forks, closes, Progress, moved}
 use Rattle.rules.specs.Fits.{effect}
 use Rattle.soundness.specs.Walking.{Limits, Held, Within, SideFits, ForksFit, Roomy, sizes, Room, roomy}
 
@@ -87,26 +87,18 @@ module _ (lim : Limits) (b : Branch) (fs : List Fork) (held : Held lim b fs) whe
   )
   fine_after Close fit room = closed_fine lim b fs held fit
 
-  adding : (n : ℕ) (facts : List Fact) (links : List Link) → Within lim (moved b fs (adds n facts links)) → Room lim b fs (sizes (adds n facts links))
-  adding n facts links after =
+  -- and where it is within the limits after the line, there was room
+  pub room_before : (e : Effect) → Within lim (moved b fs e) → Room lim b fs (sizes e)
+  room_before (adds n facts links) after =
       record {
         facts = omega (arith, after.facts, length-append b.facts facts);
         links = omega (arith, after.links, length-append b.links links);
         forks = omega (arith, after.forks);
         worlds = after.worlds;
       }
-
-  -- and where it is within the limits after the line, there was room
-  pub room_before : (m : Move) → Within lim (moved b fs (effect m)) → Room lim b fs (sizes (effect m))
-  room_before (AddFact f) after = adding 0 (f ∷ []) [] after
-  room_before (AddFacts f h) after = adding 0 (f ∷ h ∷ []) [] after
-  room_before (AddLink l) after = adding 0 [] (l ∷ []) after
-  room_before (Successor l f) after = adding 1 (f ∷ []) (l ∷ []) after
-  room_before (Through l m) after = adding 1 [] (l ∷ m ∷ []) after
-  room_before (Apart l m) after = adding 2 [] (l ∷ m ∷ []) after
-  room_before (ForkFacts f h) after =
+  room_before (forks (sides.Fact f) kept) after =
       record { facts = omega (arith, after.facts, length_push b.facts f); links = omega (arith, after.links); forks = omega (arith, after.forks); worlds = omega (arith, after.worlds) }
-  room_before (ForkLinks l m) after =
+  room_before (forks (sides.Link l) kept) after =
       record { facts = omega (arith, after.facts); links = omega (arith, after.links, length_push b.links l); forks = omega (arith, after.forks); worlds = omega (arith, after.worlds) }
-  room_before Close after =
+  room_before closes after =
       record { facts = omega (arith, held.facts); links = omega (arith, held.links); forks = omega (arith, held.forks); worlds = omega (arith, held.worlds) }

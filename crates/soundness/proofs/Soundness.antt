@@ -4,7 +4,8 @@
 -- Waiting b ks             each of the forks ks fits, and what it goes back to is numbered
 -- Stacked g M b ks         no assignment models any of the branches that the forks ks go back to
 use Rattle.std.proofs.Common.{◌≡◌, ℕ, ◌<◌, ◌≤◌, List, [], ◌∷◌, length, Some, sym, refl, ◌∙◌, subst, ap₂, append-nil, add-zero, arith, length-append}
-use lib.Seq.{take-append-le, take-length}
+use Rattle.std.proofs.Math.Seq.{take-length}
+use Rattle.std.proofs.lemmas.List.{take-append-le}
 use Rattle.std.proofs.lemmas.List.Elements.{All-from_recursion}
 use Rattle.terms.specs.Laws.{SoundRows}
 use Rattle.terms.specs.Truth.{Structure, Holds, Settled, structure}
