@@ -1,7 +1,7 @@
 -- What the walk holds stays within the limits just where the lines find their places.
-use Rattle.std.proofs.Common.{◌≡◌, ℕ, ◌+◌, ◌≤◌, true, leb, List, [], ◌∷◌, length, take, arith}
+use Rattle.std.proofs.Common.{◌≡◌, ℕ, ◌≤◌, true, List, [], ◌∷◌, length, take, arith}
 use Rattle.std.proofs.lemmas.List.{length-append, length_push, length-take}
-use Rattle.std.proofs.lemmas.Bool.{and_parts, and_from, leb-true, le-leb}
+use Rattle.std.proofs.lemmas.Bool.Decides.{nat_tests}
 use Rattle.rules.specs.declared.branch.Fact.{Fact}
 use Rattle.rules.specs.declared.branch.Fork.{Fork}
 use Rattle.rules.specs.declared.branch.Link.{Link}
@@ -17,18 +17,10 @@ use Rattle.soundness.specs.Walking.{Limits, Held, Within, SideFits, ForksFit, Ro
 -- the test for free places, part by part
 pub room_parts : (lim : Limits) (b : Branch) (fs : List Fork) (p : Places) → roomy lim b fs p ≡ true → Room lim b fs p
 room_parts lim b fs p e =
-    let facts = and_parts (leb (length b.facts + p.facts) lim.facts) _ e in
-    let links = and_parts (leb (length b.links + p.links) lim.links) _ facts.1 in
-    let worlds = and_parts (leb (b.worlds + p.worlds) lim.worlds) (leb (length fs + p.forks) lim.forks) links.1 in
-    record {
-      facts = leb-true _ _ facts.0;
-      links = leb-true _ _ links.0;
-      worlds = leb-true _ _ worlds.0;
-      forks = leb-true _ _ worlds.1;
-    }
+    record { facts = grind (arith, nat_tests); links = grind (arith, nat_tests); worlds = grind (arith, nat_tests); forks = grind (arith, nat_tests) }
 
 pub room_from : (lim : Limits) (b : Branch) (fs : List Fork) (p : Places) → Room lim b fs p → roomy lim b fs p ≡ true
-room_from lim b fs p r = and_from _ _ (le-leb _ _ r.facts) (and_from _ _ (le-leb _ _ r.links) (and_from _ _ (le-leb _ _ r.worlds) (le-leb _ _ r.forks)))
+room_from lim b fs p r = grind (arith, nat_tests, r.facts, r.links, r.worlds, r.forks)
 
 -- what is counted when the branch is cut back
 cut_short : {X : Type 0} (n : ℕ) (xs : List X) → (length (take n xs) ≤ n) × (length (take n xs) ≤ length xs)
