@@ -119,11 +119,12 @@ read_so most named bytes p e =
     let request : h.0.request ≡ p.request = (let same = below.1 in cc) ∙ ap (λ q. q.request) is in
     let lines : h.0.count ≡ p.lines = (let same = within.1 in cc) ∙ ap (λ q. q.lines) is in
     let range = and_parts (leb 1 h.0.count) (leb h.0.count most) within.0 in
+    let kind = among_one h.0.kind head.0 in
     record {
-      headed = subst (λ k. Headed k p.request p.lines bytes) (among_one h.0.kind head.0) (subst (λ q. Headed h.0.kind q p.lines bytes) request (subst (λ c. Headed h.0.kind h.0.request c bytes) lines head.1));
-      known = subst (λ q. q < named) request (ltb-true h.0.request named below.0);
-      some = subst (λ c. 1 ≤ c) lines (leb-true 1 h.0.count range.0);
-      few = subst (λ c. c ≤ most) lines (leb-true h.0.count most range.1);
+      headed = rw (kind, request, lines) at head.1;
+      known = omega (arith, ltb-true h.0.request named below.0);
+      some = omega (arith, leb-true 1 h.0.count range.0);
+      few = omega (arith, leb-true h.0.count most range.1);
       long = eqb-true _ _ sized.0 ∙ ap (λ q. 10 + 7 * q.lines) is;
     }
 
@@ -161,13 +162,13 @@ passes_exactly lim g bytes r some_world = (keeps, passes)
         record {
           lines = lines;
           laid_out = record {
-            headed = subst (λ q. Headed 1 q (length lines) bytes) request (subst (λ c. Headed 1 p.request c bytes) (sym size) read.headed);
-            some = subst (λ c. 1 ≤ c) (sym size) read.some;
-            few = subst (λ c. c ≤ lim.lines) (sym size) read.few;
-            long = read.long ∙ ap (λ c. 10 + 7 * c) (sym size);
+            headed = rw (request, ← size) at read.headed;
+            some = omega arith;
+            few = omega arith;
+            long = omega arith;
             each = λ i l at. ap (line_at bytes) (omega arith) ∙ lines_each bytes 0 p.lines i l at;
           };
-          named = subst (λ q. q < named) request read.known;
+          named = omega arith;
           starts = fits;
           completes = subst (λ q. Completes g (Within lim) (going (start q) []) lines) request (lines_passing lim g lines (going (start p.request) []) 0 (subst (λ q. Held lim (start q) []) (sym request) fits) tt ran.1.0);
         }

@@ -5,7 +5,7 @@
 use Rattle.std.proofs.Common.{◌≡◌, ℕ, true, false, eqb, List, [], ◌∷◌, Some, refl, subst, subst₂, inr, zero-le, arith}
 use Rattle.std.specs.List.{AllByRecursion}
 use Rattle.std.proofs.lemmas.Bool.{cond_both, false≢true}
-use Rattle.std.proofs.lemmas.Option.{none-some, same_Some, slice_get_within}
+use Rattle.std.proofs.lemmas.Option.{same_Some, slice_get_within}
 use Rattle.terms.specs.Laws.{SoundRows}
 use Rattle.terms.specs.Truth.{Structure, Holds, Finite, structure}
 use Rattle.terms.specs.Written.{Statement, statement_written}
@@ -33,9 +33,9 @@ none_sound =
       statements_within = omega arith;
       principals_distinct = λ i j h. omega arith;
       statements_distinct = λ i j h. omega arith;
-      principals_earlier = λ n r e. absurd (none-some r e);
-      statements_earlier = λ n r e. absurd (none-some r e);
-      named = λ n r e. absurd (none-some r e);
+      principals_earlier = λ n r e. cc;
+      statements_earlier = λ n r e. cc;
+      named = λ n r e. cc;
     }
 
 -- naming the rows one after another

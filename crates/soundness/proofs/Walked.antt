@@ -1,7 +1,8 @@
 -- A line that is walked is allowed by the rules.
-use Rattle.std.proofs.Common.{◌≡◌, ℕ, ◌+◌, true, ◌&&◌, eqb, [], ◌∷◌, is_some, Some, None, Ok, Option, sym, refl, ap, ◌∙◌, subst, inl, inr}
+use Rattle.std.proofs.Common.{◌≡◌, ℕ, ◌+◌, true, ◌&&◌, eqb, [], ◌∷◌, is_some, Some, None, Ok, Option, sym, refl, ap, ◌∙◌, subst, inl, inr, arith}
 use Rattle.std.specs.List.{slice_get}
 use Rattle.std.proofs.lemmas.Bool.{and_parts, or_cases, eqb-true, ltb-true}
+use Rattle.std.proofs.lemmas.Bool.Decides.{nat_tests}
 use Rattle.std.proofs.lemmas.Option.{same_Some, cond_some}
 use Rattle.denials.specs.Denials.{denied}
 use Rattle.terms.specs.declared.row.PrincipalRow.{PrincipalRow}
@@ -62,10 +63,10 @@ move_cited g b s l n m e =
 
 -- two or three tests of equal numbers
 same_two : (a b c d : ℕ) → (eqb a b && eqb c d) ≡ true → (a ≡ b) × (c ≡ d)
-same_two a b c d e = let h = and_parts (eqb a b) (eqb c d) e in (eqb-true a b h.0, eqb-true c d h.1)
+same_two a b c d e = grind (arith, nat_tests)
 
 same_three : (a b c d n m : ℕ) → (eqb a b && (eqb c d && eqb n m)) ≡ true → (a ≡ b) × ((c ≡ d) × (n ≡ m))
-same_three a b c d n m e = let h = and_parts (eqb a b) (eqb c d && eqb n m) e in (eqb-true a b h.0, same_two c d n m h.1)
+same_three a b c d n m e = grind (arith, nat_tests)
 
 line_is : (l : Line) (k a b c : ℕ) → l.code ≡ k → l.a ≡ a → l.b ≡ b → l.c ≡ c → l ≡ line k a b c
 line_is l k a b c p q r s = λ i. record { code = p i; a = q i; b = r i; c = s i }
