@@ -1,9 +1,15 @@
 -- A file passes just when it keeps the rules within the limits.
-use Rattle.std.proofs.Common.{◌≡◌, ℕ, zero, suc, ◌+◌, ◌*◌, ◌<◌, ◌≤◌, Bool, true, false, cond, ◌&&◌, eqb, ltb, leb, List, [], ◌∷◌, length, Some, None, Ok, Err, Result, sym, refl, ap, ◌∙◌, subst, arith}
+use Rattle.std.proofs.Common.{◌≡◌, ℕ, zero, suc, ◌+◌, ◌*◌, ◌<◌, ◌≤◌, true, ◌&&◌, eqb, ltb, leb, List, [], ◌∷◌, length, Some, Ok, sym, refl, ap, ◌∙◌, subst, arith}
 use Rattle.std.specs.List.{slice_get}
+<<<<<<< HEAD
 use Rattle.std.proofs.lemmas.Bool.{and_parts, and_from, leb-true, le-leb, ltb-true, lt-ltb, eqb-true, eq-eqb, cond-true, cond-false}
 use Rattle.std.proofs.lemmas.Bool.Decides.{nat_tests}
 use Rattle.denials.specs.declared.denial.Denial.{Denial}
+=======
+use Rattle.std.proofs.lemmas.Bool.{and_parts, and_from, leb-true, le-leb, ltb-true, lt-ltb, eqb-true, eq-eqb, cond-true}
+use Rattle.std.proofs.lemmas.Bool.Decides.{nat_tests}
+use Rattle.std.proofs.lemmas.Option.{same_Some}
+>>>>>>> 6a9453ae3c7e4d5f1e2cf64ad27fcaa0e8ec17f1
 use Rattle.denials.specs.Denials.{denied}
 use Rattle.files.specs.declared.head.Head.{Head}
 use Rattle.files.specs.Heads.{among, head_read, request_named, count_within, long_as, Headed}
@@ -17,11 +23,11 @@ use Rattle.rules.specs.Fits.{effect}
 use Rattle.rules.specs.Shapes.{shaped, takes}
 use Rattle.soundness.specs.Given.{Given}
 use Rattle.soundness.specs.Rules.{Allows, Completes}
-use Rattle.soundness.specs.Walking.{Limits, Held, Within, ForksFit, Roomy, sizes, on, further, line_move, roomy, line_walked, lines_walked}
-use Rattle.soundness.specs.ProofFiles.{line_at, lines_from, lines_passed, Reading, proof_read, walked, Keeps}
+use Rattle.soundness.specs.Walking.{Limits, Held, Within, ForksFit, Roomy, sizes, further, line_move, roomy, line_walked, lines_walked}
+use Rattle.soundness.specs.ProofFiles.{line_at, lines_from, Reading, proof_read, walked, Keeps}
 use Rattle.soundness.specs.Laws.{PassesExactly}
 use Rattle.soundness.proofs.Allowed.{allowed_walks}
-use Rattle.soundness.proofs.Inversions.{some_same, ok_same, err_ok, on_some, further_ok, cond_ok}
+use Rattle.soundness.proofs.Inversions.{on_some, further_ok, cond_ok}
 use Rattle.soundness.proofs.Rooms.{room_parts, room_from, fine_after, room_before}
 use Rattle.soundness.proofs.Walked.{walked_allows}
 
@@ -29,39 +35,20 @@ use Rattle.soundness.proofs.Walked.{walked_allows}
 pub takes_up : (g : Given) (b : Branch) (l : Line) (s : Shape) (m : Move) (n : ℕ) → shaped l ≡ Some s → line_move g b s l n ≡ Ok m → takes s.rule ≡ sizes (effect m)
 takes_up g b l s m n shapes moves =
     let w = allowed_walks g b l (effect m) n (walked_allows g b l s m n shapes moves) in
-    let shape : w.shape ≡ s = some_same _ _ (sym w.shaped_so ∙ shapes) in
+    let shape : w.shape ≡ s = same_Some _ _ (sym w.shaped_so ∙ shapes) in
     ap (λ t. takes t.rule) (sym shape) ∙ w.takes_up
 
--- what walking a line answers, stage by stage
-module _ (lim : Limits) (g : Given) (b : Branch) (fs : List Fork) (l : Line) (n : ℕ) where
-  abbrev in_room : Shape → Move → Result Progress Denial
-  in_room s m = cond (roomy lim b fs (takes s.rule)) (Ok (moved b fs (effect m))) (Err (denied 25 n))
-
-  abbrev with_shape : Shape → Result Progress Denial
-  with_shape s = further (line_move g b s l n) (in_room s)
-
-  pub shapeless : shaped l ≡ None → line_walked lim g b fs l n ≡ Err (denied 21 n)
-  shapeless none = ap (λ o. on (denied 21 n) o with_shape) none
-
-  pub moveless : (s : Shape) (d : Denial) → shaped l ≡ Some s → line_move g b s l n ≡ Err d → line_walked lim g b fs l n ≡ Err d
-  moveless s d shapes denies = ap (λ o. on (denied 21 n) o with_shape) shapes ∙ ap (λ r. further r (in_room s)) denies
-
-  pub roomless : (s : Shape) (m : Move) → shaped l ≡ Some s → line_move g b s l n ≡ Ok m → roomy lim b fs (takes s.rule) ≡ false → line_walked lim g b fs l n ≡ Err (denied 25 n)
-  roomless s m shapes moves full = ap (λ o. on (denied 21 n) o with_shape) shapes ∙ ap (λ r. further r (in_room s)) moves ∙ cond-false _ _ _ full
-
-  pub moving : (s : Shape) (m : Move) → shaped l ≡ Some s → line_move g b s l n ≡ Ok m → roomy lim b fs (takes s.rule) ≡ true → line_walked lim g b fs l n ≡ Ok (moved b fs (effect m))
-  moving s m shapes moves room = ap (λ o. on (denied 21 n) o with_shape) shapes ∙ ap (λ r. further r (in_room s)) moves ∙ cond-true _ _ _ room
+-- what walking a line answers where all goes well
+pub moving : (lim : Limits) (g : Given) (b : Branch) (fs : List Fork) (l : Line) (n : ℕ) (s : Shape) (m : Move) → shaped l ≡ Some s → line_move g b s l n ≡ Ok m → roomy lim b fs (takes s.rule) ≡ true → line_walked lim g b fs l n ≡ Ok (moved b fs (effect m))
+moving lim g b fs l n s m shapes moves room = simp (shapes, moves, room)
 
 -- one line
 module _ (lim : Limits) (g : Given) (b : Branch) (fs : List Fork) (l : Line) (n : ℕ) (held : Held lim b fs) where
   pub line_passes : (e : Effect) → Allows g b l e → Within lim (moved b fs e) → line_walked lim g b fs l n ≡ Ok (moved b fs e)
   line_passes e allowed within =
       let w = allowed_walks g b l e n allowed in
-      let m = w.move in
-      let after = subst (λ d. Within lim (moved b fs d)) w.does within in
-      let up : takes w.shape.rule ≡ sizes (effect m) = w.takes_up ∙ ap sizes w.does in
-      let room : roomy lim b fs (takes w.shape.rule) ≡ true = ap (roomy lim b fs) up ∙ room_from lim b fs (sizes (effect m)) (room_before lim b fs held m after) in
-      moving lim g b fs l n w.shape m w.shaped_so w.moves room ∙ ap (λ d. Ok (moved b fs d)) (sym w.does)
+      let room : roomy lim b fs (takes w.shape.rule) ≡ true = ap (roomy lim b fs) w.takes_up ∙ room_from lim b fs (sizes e) (room_before lim b fs held e within) in
+      moving lim g b fs l n w.shape w.move w.shaped_so w.moves room ∙ ap (λ d. Ok (moved b fs d)) (sym w.does)
 
   pub line_passed : (p : Progress) → ForksFit lim fs → line_walked lim g b fs l n ≡ Ok p → (e : Effect) × (Allows g b l e × ((p ≡ moved b fs e) × (Within lim p × Roomy lim p)))
   line_passed p fit e =
@@ -87,8 +74,8 @@ module _ (lim : Limits) (g : Given) where
 
   pub lines_passing : (ls : List Line) (p : Progress) (n : ℕ) → Within lim p → Roomy lim p → lines_walked lim g n p ls ≡ Ok tt → Completes g (Within lim) p ls
   lines_passing [] complete n within room e = tt
-  lines_passing [] (going b fs) n within room e = err_ok (denied 26 n) tt e
-  lines_passing (l ∷ ls) complete n within room e = err_ok (denied 20 (n + 1)) tt e
+  lines_passing [] (going b fs) n within room e = cc
+  lines_passing (l ∷ ls) complete n within room e = cc
   lines_passing (l ∷ ls) (going b fs) n within room e =
       let p = further_ok (line_walked lim g b fs l (n + 1)) _ tt e in
       let a = line_passed lim g b fs l (n + 1) within p.0 room p.1.0 in
@@ -102,8 +89,8 @@ length_lines bytes i zero = refl
 length_lines bytes i (suc n) = ap suc (length_lines bytes (i + 1) n)
 
 lines_each : (bytes : List ℕ) (i n k : ℕ) (l : Line) → slice_get (lines_from bytes i n) k ≡ Some l → line_at bytes (i + k) ≡ l
-lines_each bytes i zero k l e = let z : ◌≡◌ {A = ℕ} 0 1 = cc in absurd (omega arith)
-lines_each bytes i (suc n) zero l e = ap (line_at bytes) (omega arith) ∙ some_same _ _ e
+lines_each bytes i zero k l e = cc
+lines_each bytes i (suc n) zero l e = ap (line_at bytes) (omega arith) ∙ same_Some _ _ e
 lines_each bytes i (suc n) (suc k) l e = ap (line_at bytes) (omega arith) ∙ lines_each bytes (i + 1) n k l e
 
 lines_are : (bytes : List ℕ) (i : ℕ) (ls : List Line) → ((k : ℕ) (l : Line) → slice_get ls k ≡ Some l → line_at bytes (i + k) ≡ l) → lines_from bytes i (length ls) ≡ ls
@@ -130,19 +117,20 @@ read_so most named bytes p e =
     let row = further_ok (request_named named h.0) _ p h.1.1 in
     let count = further_ok (count_within most h.0) _ p row.1.1 in
     let long = further_ok (long_as (10 + 7 * count.0) bytes) _ p count.1.1 in
-    let is = ok_same (record { request = row.0; lines = count.0 }) p long.1.1 in
+    let is : record { request = row.0; lines = count.0 } ≡ p = (let same = long.1.1 in cc) in
     let below = cond_ok (ltb h.0.request named) (Ok h.0.request) (denied 17 6) row.0 row.1.0 in
     let within = cond_ok (leb 1 h.0.count && leb h.0.count most) (Ok h.0.count) (denied 18 8) count.0 count.1.0 in
     let sized = cond_ok (eqb (length bytes) (10 + 7 * count.0)) (Ok tt) (denied 19 10) long.0 long.1.0 in
     let head = (head_exactly (1 ∷ []) bytes h.0).0 h.1.0 in
-    let request : h.0.request ≡ p.request = ok_same _ _ below.1 ∙ ap (λ q. q.request) is in
-    let lines : h.0.count ≡ p.lines = ok_same _ _ within.1 ∙ ap (λ q. q.lines) is in
+    let request : h.0.request ≡ p.request = (let same = below.1 in cc) ∙ ap (λ q. q.request) is in
+    let lines : h.0.count ≡ p.lines = (let same = within.1 in cc) ∙ ap (λ q. q.lines) is in
     let range = and_parts (leb 1 h.0.count) (leb h.0.count most) within.0 in
+    let kind = among_one h.0.kind head.0 in
     record {
-      headed = subst (λ k. Headed k p.request p.lines bytes) (among_one h.0.kind head.0) (subst (λ q. Headed h.0.kind q p.lines bytes) request (subst (λ c. Headed h.0.kind h.0.request c bytes) lines head.1));
-      known = subst (λ q. q < named) request (ltb-true h.0.request named below.0);
-      some = subst (λ c. 1 ≤ c) lines (leb-true 1 h.0.count range.0);
-      few = subst (λ c. c ≤ most) lines (leb-true h.0.count most range.1);
+      headed = rw (kind, request, lines) at head.1;
+      known = omega (arith, ltb-true h.0.request named below.0);
+      some = omega (arith, leb-true 1 h.0.count range.0);
+      few = omega (arith, leb-true h.0.count most range.1);
       long = eqb-true _ _ sized.0 ∙ ap (λ q. 10 + 7 * q.lines) is;
     }
 
@@ -155,10 +143,7 @@ reads most named bytes p read =
     let row : request_named named h ≡ Ok r = cond-true _ _ _ (lt-ltb r named read.known) in
     let count : count_within most h ≡ Ok n = cond-true _ _ _ (and_from _ _ (le-leb 1 n read.some) (le-leb n most read.few)) in
     let long : long_as (10 + 7 * n) bytes ≡ Ok tt = cond-true _ _ _ (eq-eqb _ _ read.long) in
-    ap (λ x. further x (λ h. further (request_named named h) (λ q. further (count_within most h) (λ c. further (long_as (10 + 7 * c) bytes) (λ _. Ok (record { request = q; lines = c })))))) head ∙
-    ap (λ x. further x (λ q. further (count_within most h) (λ c. further (long_as (10 + 7 * c) bytes) (λ _. Ok (record { request = q; lines = c }))))) row ∙
-    ap (λ x. further x (λ c. further (long_as (10 + 7 * c) bytes) (λ _. Ok (record { request = r; lines = c })))) count ∙
-    ap (λ x. further x (λ _. Ok (record { request = r; lines = n }))) long
+    simp (head, row, count, long)
 
 pub passes_exactly : PassesExactly
 passes_exactly lim g bytes r some_world = (keeps, passes)
@@ -176,20 +161,20 @@ passes_exactly lim g bytes r some_world = (keeps, passes)
         let read = read_so lim.lines named bytes p found.1.0 in
         let room = cond_ok (leb 1 lim.facts) _ (denied 25 0) r found.1.1 in
         let ran = further_ok (lines_walked lim g 0 (going (start p.request) []) (lines_from bytes 0 p.lines)) _ r room.1 in
-        let request : p.request ≡ r = ok_same _ _ ran.1.1 in
+        let request : p.request ≡ r = (let same = ran.1.1 in cc) in
         let lines = lines_from bytes 0 p.lines in
         let size : length lines ≡ p.lines = length_lines bytes 0 p.lines in
         let fits = starts (leb-true 1 lim.facts room.0) in
         record {
           lines = lines;
           laid_out = record {
-            headed = subst (λ q. Headed 1 q (length lines) bytes) request (subst (λ c. Headed 1 p.request c bytes) (sym size) read.headed);
-            some = subst (λ c. 1 ≤ c) (sym size) read.some;
-            few = subst (λ c. c ≤ lim.lines) (sym size) read.few;
-            long = read.long ∙ ap (λ c. 10 + 7 * c) (sym size);
+            headed = rw (request, ← size) at read.headed;
+            some = omega arith;
+            few = omega arith;
+            long = omega arith;
             each = λ i l at. ap (line_at bytes) (omega arith) ∙ lines_each bytes 0 p.lines i l at;
           };
-          named = subst (λ q. q < named) request read.known;
+          named = omega arith;
           starts = fits;
           completes = subst (λ q. Completes g (Within lim) (going (start q) []) lines) request (lines_passing lim g lines (going (start p.request) []) 0 (subst (λ q. Held lim (start q) []) (sym request) fits) tt ran.1.0);
         }
@@ -203,6 +188,4 @@ passes_exactly lim g bytes r some_world = (keeps, passes)
         let room : leb 1 lim.facts ≡ true = le-leb 1 lim.facts k.starts.facts in
         let lines : lines_from bytes 0 n ≡ k.lines = lines_are bytes 0 k.lines (λ i l at. ap (line_at bytes) (omega arith) ∙ d.each i l at) in
         let ran : lines_walked lim g 0 (going (start r) []) (lines_from bytes 0 n) ≡ Ok tt = ap (lines_walked lim g 0 (going (start r) [])) lines ∙ lines_pass lim g k.lines (going (start r) []) 0 k.starts k.completes in
-        ap (λ x. further x (λ p. lines_passed lim g bytes p.request p.lines)) read ∙
-        cond-true _ _ _ room ∙
-        ap (λ x. further x (λ _. Ok r)) ran
+        simp (read, room, ran)
