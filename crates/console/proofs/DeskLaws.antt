@@ -1,8 +1,9 @@
 -- The console's gates as a list: soundness, places, and what each looks like on the desk.
 use Rattle.std.proofs.Common.{◌≡◌, ℕ, zero, suc, ◌<◌, ◌≤◌, Bool, true, false, cond, eqb, leb, List, [], ◌∷◌, ◌++◌, map, length, get_or, set, is_some, Some, Result, sym, refl, ap, ◌∙◌, subst, inl, inr, arith, le-leb}
-use Rattle.std.specs.List.{slice_get}
+use Rattle.std.specs.List.{position, prefix_len, slice_get}
 use Rattle.std.proofs.lemmas.Bool.{cases_eq}
-use Rattle.terms.specs.Naming.{position, further}
+use Rattle.std.proofs.lemmas.List.{length-map}
+use Rattle.std.specs.Prelude.{◌+◌, not}
 use Rattle.terms.proofs.Nths.{nth_push}
 use Rattle.gate.specs.declared.gate.Gate.{Gate}
 use Rattle.std.proofs.lemmas.Option.{slice_get-get_or}
@@ -40,9 +41,15 @@ sound_set gs i g all here k x e =
       | inr apart ↦ all k x (sym (nth_set_other gs i k g apart) ∙ e)
     ]
 
+prefix_len_map : {X Y : Type 0} (f : X → Y) (is : Y → Bool) (xs : List X) → prefix_len is (map f xs) ≡ prefix_len (λ x. is (f x)) xs
+prefix_len_map f is [] = refl
+prefix_len_map f is (x ∷ xs) = ap (λ n. cond (is (f x)) (1 + n) 0) (prefix_len_map f is xs)
+
 pub position_map : {X Y : Type 0} (f : X → Y) (is : Y → Bool) (xs : List X) → position is (map f xs) ≡ position (λ x. is (f x)) xs
-position_map f is [] = refl
-position_map f is (x ∷ xs) = ap (λ o. cond (is (f x)) (Some 0) (further 1 o)) (position_map f is xs)
+position_map f is xs =
+    let before = prefix_len_map f (λ y. not (is y)) xs in
+    let sized = length-map xs f in
+    cc
 
 pub nth_map_some : {X Y : Type 0} (f : X → Y) (xs : List X) (i : ℕ) (x : X) → slice_get xs i ≡ Some x → slice_get (map f xs) i ≡ Some (f x)
 nth_map_some f [] i x e = let z : ◌≡◌ {A = ℕ} 0 1 = cc in absurd (omega arith)

@@ -10,9 +10,8 @@
 -- AtGate d deed r e         what a deed at the current gate answers and leaves
 -- Did d said r e            what a command answers and leaves
 use Rattle.std.specs.Prelude.{◌≡◌, ℕ, cond, List, [], ◌∷◌, ◌++◌, map, length, is_some, Some, None, Ok, Err, vec_items, Option, Result, nat_eq, nat_le, slice_set}
-use Rattle.std.specs.List.{slice_get}
+use Rattle.std.specs.List.{position, slice_get}
 use Rattle.denials.specs.declared.denial.Denial.{Denial}
-use Rattle.terms.specs.Naming.{position}
 use Rattle.gate.specs.declared.gate.Gate.{Gate}
 use Rattle.gate.specs.State.{State}
 use Rattle.job.specs.Commands.{Said, opens, turns, principal, statement, files, strikes, lists, Heard, silent, command}

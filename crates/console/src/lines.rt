@@ -24,12 +24,7 @@ fn place_of(gates: &[Gate<Pile>], number: u32) -> Option<usize>
     ensures answer { result ≡ place_of number gates.now }
     ensures within { IfSome result (λ i. i < length gates.now) }
 {
-    for (i, gate) in gates.iter().enumerate() {
-        if gate.number() == number {
-            return Some(i);
-        }
-    }
-    None
+    gates.iter().position(|gate| gate.number() == number)
 }
 
 impl Console {

@@ -1,8 +1,8 @@
 -- The tables are sound, naming keeps them so, and it is lawful.
-use Rattle.std.proofs.Common.{◌≡◌, ℕ, ◌≤◌, ltb, List, [], ◌∷◌, ◌++◌, length, take, IfOk, Some, None, Ok, Err, Option, Result, refl, ap, ◌∙◌, inl, inr, arith, ltb-true}
+use Rattle.std.proofs.Common.{◌≡◌, ℕ, ◌≤◌, List, [], length, take, IfOk, Some, None, Ok, Err, Option, Result, refl, ap, ◌∙◌, inl, inr, arith}
 use Rattle.std.specs.List.{position, slice_get}
 use Rattle.std.proofs.lemmas.List.{length_push, length-take-le}
-use Rattle.std.proofs.lemmas.Bool.{cond_both}
+use Rattle.std.proofs.lemmas.Grind.{common_steps}
 use Rattle.std.proofs.lemmas.Option.{slice_get_within}
 use Rattle.denials.specs.declared.denial.Denial.{Denial}
 use Rattle.terms.specs.declared.names.Names.{Names}
@@ -11,7 +11,7 @@ use Rattle.terms.specs.declared.row.StatementRow.{StatementRow}
 use Rattle.terms.specs.Rows.{principal_form, principal_x, principal_y, principal_determined, statement_form, statement_x, statement_y, statement_determined}
 use Rattle.terms.specs.Naming.{same, put_answer, put_after, answered, left, read_principal, read_statement, principal_after, statement_after, same_principal, same_statement}
 use Rattle.terms.specs.Tables.{Distinct, Every, PartsNamed, principal_needs, statement_needs, principals_needed}
-use Rattle.terms.specs.Written.{Principal, Statement, Rows, principal_of, statement_of, principals_written, statements_written}
+use Rattle.terms.specs.Written.{Rows, principal_of, statement_of, principals_written, statements_written, write_out}
 use Rattle.terms.specs.Laws.{OneMore, Stay, Apart, Answered, LawfulNaming, SoundRows, principal_name, principal_named, statement_name, statement_named}
 use Rattle.terms.specs.Named.{rows_of}
 use Rattle.terms.proofs.Nths.{nth_append_left}
@@ -51,10 +51,7 @@ module _ {R : Type 0} (form x y : R → ℕ) (limit : ℕ) (rows : List R) where
 
   put_within : (r : R) (at : Option ℕ) → length rows ≤ limit → length (put_after limit rows r at) ≤ limit
   put_within r (Some n) h = h
-  put_within r None h =
-      cond_both (ltb (length rows) limit) (rows ++ (r ∷ [])) rows (λ l. length l ≤ limit)
-      (λ e. omega (arith, ltb-true (length rows) limit e, length_push rows r))
-      (λ _. h)
+  put_within r None h = let longer = length_push rows r in grind (arith, common_steps)
 
   within_after : (read : Result R Denial) → length rows ≤ limit → length (after_naming read) ≤ limit
   within_after (Ok r) h = put_within r (position (same form x y r) rows) h
@@ -113,15 +110,10 @@ sound_apart t sound =
     }
 
 -- one more row leaves what the others write out to
-principals_stay : (before after : List PrincipalRow) → OneMore before after → (n : ℕ) (p : Principal) → slice_get (principals_written before) n ≡ Some p → slice_get (principals_written after) n ≡ Some p
-principals_stay before after (inl e) n p h = ap (λ rows. slice_get (principals_written rows) n) e ∙ h
-principals_stay before after (inr s) n p h =
-    ap (λ rows. slice_get (principals_written rows) n) s.1 ∙ ap (λ terms. slice_get terms n) (write_out_push principal_of [] before s.0) ∙ nth_append_left (principals_written before) _ n (slice_get_within (principals_written before) n p h) ∙ h
-
-statements_stay : (terms : List Principal) (before after : List StatementRow) → OneMore before after → (n : ℕ) (s : Statement) → slice_get (statements_written terms before) n ≡ Some s → slice_get (statements_written terms after) n ≡ Some s
-statements_stay terms before after (inl e) n s h = ap (λ rows. slice_get (statements_written terms rows) n) e ∙ h
-statements_stay terms before after (inr m) n s h =
-    ap (λ rows. slice_get (statements_written terms rows) n) m.1 ∙ ap (λ all. slice_get all n) (write_out_push (statement_of terms) [] before m.0) ∙ nth_append_left (statements_written terms before) _ n (slice_get_within (statements_written terms before) n s h) ∙ h
+rows_stay : {R X : Type 0} (of : List X → R → X) (before after : List R) → OneMore before after → (n : ℕ) (x : X) → slice_get (write_out of [] before) n ≡ Some x → slice_get (write_out of [] after) n ≡ Some x
+rows_stay of before after (inl e) n x h = ap (λ rows. slice_get (write_out of [] rows) n) e ∙ h
+rows_stay of before after (inr s) n x h =
+    ap (λ rows. slice_get (write_out of [] rows) n) s.1 ∙ ap (λ terms. slice_get terms n) (write_out_push of [] before s.0) ∙ nth_append_left (write_out of [] before) _ n (slice_get_within (write_out of [] before) n x h) ∙ h
 
 statements_stay_by : (before after : List PrincipalRow) (rows : List StatementRow) → OneMore before after → PartsNamed principals_needed (length before) rows → statements_written (principals_written after) rows ≡ statements_written (principals_written before) rows
 statements_stay_by before after rows (inl e) named = ap (λ l. statements_written (principals_written l) rows) e
@@ -133,7 +125,7 @@ module _ (t : Rows) (sound : SoundRows t) (f a b : ℕ) where
   principal_stay =
       let one = (principal_answered t sound f a b).one in
       record {
-        principals = principals_stay t.principals (principal_after t.principals f a b) one;
+        principals = rows_stay principal_of t.principals (principal_after t.principals f a b) one;
         statements = λ n s h. ap (λ all. slice_get all n) (statements_stay_by t.principals (principal_after t.principals f a b) t.statements one sound.named) ∙ h;
       }
 
@@ -141,7 +133,7 @@ module _ (t : Rows) (sound : SoundRows t) (f a b : ℕ) where
   statement_stay =
       record {
         principals = λ n p h. h;
-        statements = statements_stay (principals_written t.principals) t.statements (statement_after (length t.principals) t.statements f a b) (statement_answered t sound f a b).one;
+        statements = rows_stay (statement_of (principals_written t.principals)) t.statements (statement_after (length t.principals) t.statements f a b) (statement_answered t sound f a b).one;
       }
 
   pub principal_lawful : LawfulNaming principal_form principal_x principal_y (λ u. u.principals) principal_name principal_named t f a b

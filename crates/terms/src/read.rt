@@ -1,4 +1,5 @@
-// Reading a form and two operands as a row, where so many rows are named. The forms are numbers since a caller gives them, and an unknown one is denied.
+// Reading a form and two operands as a row. The form stays a number, since a caller gives it and an unknown one is denied.
+// Two functions and not one of the trait: a statement is read against two counts, a principal against one.
 ghost use Rattle.std.specs.Prelude.{◌≡◌, ◌≤◌, IfOk};
 ghost use Rattle.terms.specs.Naming.{read_principal, read_statement};
 ghost use Rattle.terms.specs.Tables.{principal_needs, statement_needs, principals_needed};

@@ -25,6 +25,7 @@ pub struct Table<R: Row, const LIMIT: usize> {
     ghost earlier: { PartsEarlier R.needs (take count rows) },
 }
 
+// `Clone` can't be derived for a generic struct with ghost fields.
 impl<R: Row, const LIMIT: usize> Clone for Table<R, LIMIT> {
     ghost is_clone = { λ x y. y ≡ x };
 
