@@ -52,14 +52,12 @@ module _ (lim : Limits) (g : Given) (b : Branch) (fs : List Fork) (l : Line) (n 
 
   pub line_passed : (p : Progress) → ForksFit lim fs → line_walked lim g b fs l n ≡ Ok p → (e : Effect) × (Allows g b l e × ((p ≡ moved b fs e) × (Within lim p × Roomy lim p)))
   line_passed p fit e =
-      let s = on_some (denied 21 n) (shaped l) _ p e in
-      let m = further_ok (line_move g b s.0 l n) _ p s.1.1 in
-      let room = cond_ok (roomy lim b fs (takes s.0.rule)) (Ok (moved b fs (effect m.0))) (denied 25 n) p m.1.1 in
-      let is : p ≡ moved b fs (effect m.0) = (let same = room.1 in cc) in
-      let allowed = walked_allows g b l s.0 m.0 n s.1.0 m.1.0 in
-      let up = takes_up g b l s.0 m.0 n s.1.0 m.1.0 in
-      let after = fine_after lim b fs held m.0 fit (room_parts lim b fs (sizes (effect m.0)) (ap (roomy lim b fs) (sym up) ∙ room.0)) in
-      (effect m.0, (allowed, (is, (subst (Within lim) (sym is) after.0, subst (Roomy lim) (sym is) after.1))))
+      let (s, (shapes, e₁)) = on_some (denied 21 n) (shaped l) _ p e in
+      let (m, (moves, e₂)) = further_ok (line_move g b s l n) _ p e₁ in
+      let (free, ran) = cond_ok (roomy lim b fs (takes s.rule)) (Ok (moved b fs (effect m))) (denied 25 n) p e₂ in
+      let is : p ≡ moved b fs (effect m) = cc in
+      let room = room_parts lim b fs (sizes (effect m)) (ap (roomy lim b fs) (sym (takes_up g b l s m n shapes moves)) ∙ free) in
+      (effect m, (walked_allows g b l s m n shapes moves, (is, subst (λ q. Within lim q × Roomy lim q) (sym is) (fine_after lim b fs held m fit room))))
 
 -- all lines
 module _ (lim : Limits) (g : Given) where
@@ -77,11 +75,10 @@ module _ (lim : Limits) (g : Given) where
   lines_passing [] (going b fs) n within room e = cc
   lines_passing (l ∷ ls) complete n within room e = cc
   lines_passing (l ∷ ls) (going b fs) n within room e =
-      let p = further_ok (line_walked lim g b fs l (n + 1)) _ tt e in
-      let a = line_passed lim g b fs l (n + 1) within p.0 room p.1.0 in
-      let is = a.1.1.0 in
-      let later = lines_passing ls p.0 (n + 1) a.1.1.1.0 a.1.1.1.1 p.1.1 in
-      (a.0, (a.1.0, (subst (Within lim) is a.1.1.1.0, subst (λ q. Completes g (Within lim) q ls) is later)))
+      let (p, (walks, rest)) = further_ok (line_walked lim g b fs l (n + 1)) _ tt e in
+      let (effects, (allowed, (is, (fine, roomy)))) = line_passed lim g b fs l (n + 1) within p room walks in
+      let later = lines_passing ls p (n + 1) fine roomy rest in
+      (effects, (allowed, subst (λ q. Within lim q × Completes g (Within lim) q ls) is (fine, later)))
 
 -- the lines of a file
 length_lines : (bytes : List ℕ) (i n : ℕ) → length (lines_from bytes i n) ≡ n
@@ -113,25 +110,27 @@ record Read (most named : ℕ) (bytes : List ℕ) (p : Reading) : Type 0 where
 
 read_so : (most named : ℕ) (bytes : List ℕ) (p : Reading) → proof_read most named bytes ≡ Ok p → Read most named bytes p
 read_so most named bytes p e =
-    let h = further_ok (head_read (1 ∷ []) bytes) _ p e in
-    let row = further_ok (request_named named h.0) _ p h.1.1 in
-    let count = further_ok (count_within most h.0) _ p row.1.1 in
-    let long = further_ok (long_as (10 + 7 * count.0) bytes) _ p count.1.1 in
-    let is : record { request = row.0; lines = count.0 } ≡ p = (let same = long.1.1 in cc) in
-    let below = cond_ok (ltb h.0.request named) (Ok h.0.request) (denied 17 6) row.0 row.1.0 in
-    let within = cond_ok (leb 1 h.0.count && leb h.0.count most) (Ok h.0.count) (denied 18 8) count.0 count.1.0 in
-    let sized = cond_ok (eqb (length bytes) (10 + 7 * count.0)) (Ok tt) (denied 19 10) long.0 long.1.0 in
-    let head = (head_exactly (1 ∷ []) bytes h.0).0 h.1.0 in
-    let request : h.0.request ≡ p.request = (let same = below.1 in cc) ∙ ap (λ q. q.request) is in
-    let lines : h.0.count ≡ p.lines = (let same = within.1 in cc) ∙ ap (λ q. q.lines) is in
-    let range = and_parts (leb 1 h.0.count) (leb h.0.count most) within.0 in
-    let kind = among_one h.0.kind head.0 in
+    let (h, (reading, e₁)) = further_ok (head_read (1 ∷ []) bytes) _ p e in
+    let (row, (requests, e₂)) = further_ok (request_named named h) _ p e₁ in
+    let (count, (counts, e₃)) = further_ok (count_within most h) _ p e₂ in
+    let (done, (measures, e₄)) = further_ok (long_as (10 + 7 * count) bytes) _ p e₃ in
+    let is : record { request = row; lines = count } ≡ p = cc in
+    let (below, same-row) = cond_ok (ltb h.request named) (Ok h.request) (denied 17 6) row requests in
+    let (within, same-count) = cond_ok (leb 1 h.count && leb h.count most) (Ok h.count) (denied 18 8) count counts in
+    let (sized, _) = cond_ok (eqb (length bytes) (10 + 7 * count)) (Ok tt) (denied 19 10) done measures in
+    let (known, headed) = (head_exactly (1 ∷ []) bytes h).0 reading in
+    let kind = among_one h.kind known in
+    let row_is : h.request ≡ row = cc in
+    let count_is : h.count ≡ count = cc in
+    let request : h.request ≡ p.request = row_is ∙ ap (λ q. q.request) is in
+    let lines : h.count ≡ p.lines = count_is ∙ ap (λ q. q.lines) is in
+    let range = and_parts (leb 1 h.count) (leb h.count most) within in
     record {
-      headed = rw (kind, request, lines) at head.1;
-      known = omega (arith, ltb-true h.0.request named below.0);
-      some = omega (arith, leb-true 1 h.0.count range.0);
-      few = omega (arith, leb-true h.0.count most range.1);
-      long = eqb-true _ _ sized.0 ∙ ap (λ q. 10 + 7 * q.lines) is;
+      headed = rw (kind, request, lines) at headed;
+      known = omega (arith, ltb-true h.request named below);
+      some = omega (arith, leb-true 1 h.count range.0);
+      few = omega (arith, leb-true h.count most range.1);
+      long = eqb-true _ _ sized ∙ ap (λ q. 10 + 7 * q.lines) is;
     }
 
 reads : (most named : ℕ) (bytes : List ℕ) (p : Reading) → Read most named bytes p → proof_read most named bytes ≡ Ok p

@@ -2,8 +2,8 @@
 --
 -- side_facts s, side_links s    the fact or the link of the alternative s
 -- beside b s                    the branch b with the alternative s
--- SideBelow n s                the alternative s is of worlds below the number n
--- SideTrue g M ρ s             the alternative s is right in M under the assignment ρ
+-- SideBelow n s                 the alternative s is of worlds below the number n
+-- SideTrue g M ρ s              the alternative s is right in M under the assignment ρ
 -- Explained g M b fs ls         whatever models the branch b, it cannot be that no assignment agreeing with it on the worlds of b makes the facts fs and the links ls right
 -- Step g M b e                  what the effect e makes of the branch b is numbered, and if no assignment models that, none models b
 <<<<<<< HEAD
@@ -28,7 +28,7 @@ use Rattle.rules.specs.declared.branch.Side.TheVariants as sides
 use Rattle.rules.specs.declared.branch.Sign.{Sign}
 use Rattle.rules.specs.declared.branch.Sign.TheVariants.{True, False}
 use Rattle.rules.specs.declared.line.Line.{Line}
-use Rattle.rules.specs.Branches.{fact, link, Branch, Effect, adds, forks, closes}
+use Rattle.rules.specs.Branches.{Branch, Effect, adds, forks, closes}
 use Rattle.soundness.specs.Given.{Given, StatementIs, PrincipalIs, Live}
 use Rattle.soundness.specs.Follows.{RulesHold, SayingsHold}
 use Rattle.soundness.specs.Rules.{HasFact, HasLink, Allows, cite_rule, cite_saying, by_not, and_true, and_false, says_true, says_false, speaks_for_true, speaks_for_false, both_linked, quoting_linked, into_both_left, into_both_right, into_quoting, facts_clash, links_clash}
@@ -88,16 +88,16 @@ module _ (g : Given) (sound : SoundRows g.rows) {W : Type 0} (M : Structure W) (
   closing eq none = subst (Step g M b) (sym eq) none
 
   fact_within : (k : ℕ) {n w : ℕ} {sign : Sign} → HasFact b k sign n w → w < b.worlds
-  fact_within k {n} {w} {sign} has = all_nth (FactBelow b.worlds) b.facts k (fact sign n w) numbered.below.0 has
+  fact_within k has = all_nth (FactBelow b.worlds) b.facts k _ numbered.below.0 has
 
   link_within : (k : ℕ) {n w v : ℕ} {sign : Sign} → HasLink b k sign n w v → (w < b.worlds) × (v < b.worlds)
-  link_within k {n} {w} {v} {sign} has = all_nth (LinkBelow b.worlds) b.links k (link sign n w v) numbered.below.1 has
+  link_within k has = all_nth (LinkBelow b.worlds) b.links k _ numbered.below.1 has
 
   fact_true : (ρ : ℕ → W) → Models g M ρ b → (k : ℕ) {n w : ℕ} {sign : Sign} → HasFact b k sign n w → Signed sign (TrueAt g M n (ρ w))
-  fact_true ρ m k {n} {w} {sign} has = all_nth (FactTrue g M ρ) b.facts k (fact sign n w) m.true.0 has
+  fact_true ρ m k has = all_nth (FactTrue g M ρ) b.facts k _ m.true.0 has
 
   link_true : (ρ : ℕ → W) → Models g M ρ b → (k : ℕ) {n w v : ℕ} {sign : Sign} → HasLink b k sign n w v → Signed sign (Linked g M n (ρ w) (ρ v))
-  link_true ρ m k {n} {w} {v} {sign} has = all_nth (LinkTrue g M ρ) b.links k (link sign n w v) m.true.1 has
+  link_true ρ m k has = all_nth (LinkTrue g M ρ) b.links k _ m.true.1 has
 
   -- the same by the parts of the row
   fact_parts : (ρ : ℕ → W) → Models g M ρ b → (k : ℕ) {n w : ℕ} {sign : Sign} {r : StatementRow} → HasFact b k sign n w → StatementIs g n r → Signed sign (Holds M (sentence_by g r) (ρ w))
