@@ -1,15 +1,9 @@
 -- A file passes just when it keeps the rules within the limits.
 use Rattle.std.proofs.Common.{◌≡◌, ℕ, zero, suc, ◌+◌, ◌*◌, ◌<◌, ◌≤◌, true, ◌&&◌, eqb, ltb, leb, List, [], ◌∷◌, length, Some, Ok, sym, refl, ap, ◌∙◌, subst, arith}
 use Rattle.std.specs.List.{slice_get}
-<<<<<<< HEAD
-use Rattle.std.proofs.lemmas.Bool.{and_parts, and_from, leb-true, le-leb, ltb-true, lt-ltb, eqb-true, eq-eqb, cond-true, cond-false}
-use Rattle.std.proofs.lemmas.Bool.Decides.{nat_tests}
-use Rattle.denials.specs.declared.denial.Denial.{Denial}
-=======
 use Rattle.std.proofs.lemmas.Bool.{and_parts, and_from, leb-true, le-leb, ltb-true, lt-ltb, eqb-true, eq-eqb, cond-true}
 use Rattle.std.proofs.lemmas.Bool.Decides.{nat_tests}
 use Rattle.std.proofs.lemmas.Option.{same_Some}
->>>>>>> 6a9453ae3c7e4d5f1e2cf64ad27fcaa0e8ec17f1
 use Rattle.denials.specs.Denials.{denied}
 use Rattle.files.specs.declared.head.Head.{Head}
 use Rattle.files.specs.Heads.{among, head_read, request_named, count_within, long_as, Headed}

@@ -5,11 +5,7 @@
 use Rattle.std.proofs.Common.{◌≡◌, ℕ, true, false, eqb, List, [], ◌∷◌, Some, refl, subst, subst₂, inr, zero-le, arith}
 use Rattle.std.specs.List.{AllByRecursion}
 use Rattle.std.proofs.lemmas.Bool.{cond_both, false≢true}
-<<<<<<< HEAD
-use Rattle.std.proofs.lemmas.Option.{slice_get_within}
-=======
 use Rattle.std.proofs.lemmas.Option.{same_Some, slice_get_within}
->>>>>>> 6a9453ae3c7e4d5f1e2cf64ad27fcaa0e8ec17f1
 use Rattle.terms.specs.Laws.{SoundRows}
 use Rattle.terms.specs.Truth.{Structure, Holds, Finite, structure}
 use Rattle.terms.specs.Written.{Statement, statement_written}

@@ -6,15 +6,9 @@
 -- SideTrue g M ρ s              the alternative s is right in M under the assignment ρ
 -- Explained g M b fs ls         whatever models the branch b, it cannot be that no assignment agreeing with it on the worlds of b makes the facts fs and the links ls right
 -- Step g M b e                  what the effect e makes of the branch b is numbered, and if no assignment models that, none models b
-<<<<<<< HEAD
-use Rattle.std.proofs.Common.{◌≡◌, ℕ, zero, suc, ◌+◌, ◌<◌, List, [], ◌∷◌, Some, sym, refl, ◌∙◌, subst, subst₂, inl, inr, arith}
-use Rattle.std.specs.List.{slice_get, AllByRecursion}
-use Rattle.std.proofs.lemmas.Option.{slice_get_within}
-=======
 use Rattle.std.proofs.Common.{◌≡◌, ℕ, ◌+◌, ◌<◌, List, [], ◌∷◌, Some, sym, refl, ◌∙◌, subst, subst₂, inl, inr, arith}
 use Rattle.std.specs.List.{slice_get, All}
 use Rattle.std.proofs.lemmas.Option.{slice_get_within, get_or_from_slice_get}
->>>>>>> 6a9453ae3c7e4d5f1e2cf64ad27fcaa0e8ec17f1
 use Rattle.terms.specs.declared.row.PrincipalRow.{PrincipalRow}
 use Rattle.terms.specs.declared.row.StatementRow.{StatementRow}
 use Rattle.terms.specs.Laws.{SoundRows}
