@@ -7,7 +7,7 @@ use Rattle.book.specs.declared.entry.Entry.{Entry}
 use Rattle.book.specs.Live.{Orderly, Follows, Next, next_after}
 use Rattle.book.specs.Meaning.{Meaning, means, with_entry, without, answered, settled, filing_number, file_answer, file_after, striking_number, strike_answer, strike_after}
 use Rattle.book.specs.Single.{some_none}
-use Rattle.book.specs.Sheet.{on}
+use Rattle.book.specs.Serials.{on}
 use Rattle.book.specs.Recall.{recalled_live, recalled_barred, recall_means, recalled_here, recalled_other, recalled_none, recalled_orderly}
 use Rattle.book.proofs.Scan.{next_is, scan_next}
 use Rattle.book.proofs.Outcomes.{Files, files_not, number_barred, Strikes, strikes_not}

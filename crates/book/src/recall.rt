@@ -1,7 +1,7 @@
 // The recall layer: over any book, it bars the serials on a sheet and hides their entries.
 ghost use Rattle.std.specs.Prelude.{◌≡◌, refl};
 ghost use Rattle.std.proofs.Common.{◌∙◌};
-ghost use Rattle.book.specs.Sheet.{sheet_list, SheetSound};
+ghost use Rattle.book.specs.Sheet.{sheet_list};
 ghost use Rattle.book.specs.Recall.{recalled_live, recalled_barred, recalled_orderly};
 
 use crate::entry::Entry;
@@ -27,11 +27,9 @@ impl<B> Recall<B> {
 }
 
 impl<B: Register> Register for Recall<B> {
-    ghost sound = { λ b. SheetSound b.sheet × B.Register.sound b.below };
-
     ghost live = { λ b. recalled_live (sheet_list b.sheet) (B.Register.live b.below) };
 
-    ghost orderly = { λ b ok. recalled_orderly (sheet_list b.sheet) (B.Register.live b.below) (B.Register.orderly b.below ok.1) };
+    ghost orderly = { λ b. recalled_orderly (sheet_list b.sheet) (B.Register.live b.below) (B.Register.orderly b.below) };
 
     fn lookup(&self, serial: u16) -> Option<Entry> {
         if self.sheet.contains(serial) {
