@@ -28,8 +28,6 @@ fn standing_numbered(number: u8) -> Option<Standing>
 impl<B: Book> Gate<B> {
     // A gate with no rows over a book that may already hold entries.
     pub fn new(number: u32, book: B) -> Gate<B>
-        requires { B.Register.sound book }
-        ensures sound { B.Register.sound result.book }
         ensures state { state_of B.Register.live B.Book.barred B.Book.free result ≡ new_gate number (means (B.Register.live book) (B.Book.barred book) (B.Book.free book)) }
     {
         Gate {
@@ -48,7 +46,6 @@ impl<B: Book> Gate<B> {
 
     // The live entry with the lowest serial above the given one, or nothing.
     pub fn next_after(&self, serial: u16) -> Option<Entry>
-        requires { B.Register.sound self.now.book }
         ensures answer { result ≡ next_after (state_of B.Register.live B.Book.barred B.Book.free self.now).book.live serial }
     {
         self.book.next_after(serial)
@@ -56,8 +53,6 @@ impl<B: Book> Gate<B> {
 
     // Names a principal by its form and operands, and answers its row number.
     pub fn principal(&mut self, form: u8, x: u16, y: u16) -> Result<u16, Denial>
-        requires { B.Register.sound self.old.book }
-        ensures sound { B.Register.sound self.new.book }
         ensures answer { result ≡ principal_call (state_of B.Register.live B.Book.barred B.Book.free self.old) form x y }
         ensures after { state_of B.Register.live B.Book.barred B.Book.free self.new ≡ principal_left (state_of B.Register.live B.Book.barred B.Book.free self.old) form x y }
         ensures lawful { LawfulNaming principal_form principal_x principal_y (λ t. t.principals) principal_name principal_named (state_of B.Register.live B.Book.barred B.Book.free self.old).rows form x y }
@@ -67,8 +62,6 @@ impl<B: Book> Gate<B> {
 
     // Names a statement by its form and operands, and answers its row number.
     pub fn statement(&mut self, form: u8, x: u16, y: u16) -> Result<u16, Denial>
-        requires { B.Register.sound self.old.book }
-        ensures sound { B.Register.sound self.new.book }
         ensures answer { result ≡ statement_call (state_of B.Register.live B.Book.barred B.Book.free self.old) form x y }
         ensures after { state_of B.Register.live B.Book.barred B.Book.free self.new ≡ statement_left (state_of B.Register.live B.Book.barred B.Book.free self.old) form x y }
         ensures lawful { LawfulNaming statement_form statement_x statement_y (λ t. t.statements) statement_name statement_named (state_of B.Register.live B.Book.barred B.Book.free self.old).rows form x y }
@@ -78,8 +71,6 @@ impl<B: Book> Gate<B> {
 
     // Tries the standing and the row, and then files in the book.
     fn file_row(&mut self, serial: u16, standing: u8, row: u16) -> Result<(), Denial>
-        requires { B.Register.sound self.old.book }
-        ensures sound { B.Register.sound self.new.book }
         ensures answer { result ≡ filing (state_of B.Register.live B.Book.barred B.Book.free self.old) serial standing row }
         ensures after { state_of B.Register.live B.Book.barred B.Book.free self.new ≡ filing_left (state_of B.Register.live B.Book.barred B.Book.free self.old) serial standing row }
     {
@@ -104,8 +95,6 @@ impl<B: Book> Gate<B> {
 
     // Files a statement row under a serial, as a rule (standing 1) or a saying (standing 2).
     pub fn file(&mut self, serial: u16, standing: u8, row: u16) -> Result<(), Denial>
-        requires { B.Register.sound self.old.book }
-        ensures sound { B.Register.sound self.new.book }
         ensures answer { result ≡ filing (state_of B.Register.live B.Book.barred B.Book.free self.old) serial standing row }
         ensures after { state_of B.Register.live B.Book.barred B.Book.free self.new ≡ filing_left (state_of B.Register.live B.Book.barred B.Book.free self.old) serial standing row }
         ensures filed { FiledAt (state_of B.Register.live B.Book.barred B.Book.free self.old) serial standing row result (state_of B.Register.live B.Book.barred B.Book.free self.new) }
@@ -115,8 +104,6 @@ impl<B: Book> Gate<B> {
 
     // Strikes the live entry of a serial.
     pub fn strike(&mut self, serial: u16) -> Result<(), Denial>
-        requires { B.Register.sound self.old.book }
-        ensures sound { B.Register.sound self.new.book }
         ensures answer { result ≡ striking (state_of B.Register.live B.Book.barred B.Book.free self.old) serial }
         ensures after { state_of B.Register.live B.Book.barred B.Book.free self.new ≡ striking_left (state_of B.Register.live B.Book.barred B.Book.free self.old) serial }
         ensures struck { StruckAt (state_of B.Register.live B.Book.barred B.Book.free self.old) serial result (state_of B.Register.live B.Book.barred B.Book.free self.new) }
