@@ -11,7 +11,6 @@ use std::alloc::{AllocError, Global};
 
 // The live entries in rising serial order.
 pub(crate) fn live_entries<B: Book>(heap: Global, gate: &Gate<B>) -> Result<Vec<Entry>, AllocError>
-    requires { B.Register.sound gate.now.book }
     ensures entries { IfOk result (λ v. v.items ≡ all_live (B.Register.live gate.now.book)) }
 {
     let mut entries = Vec::new(heap);
