@@ -3,3 +3,4 @@ pub mod Outcomes
 pub mod Exact
 pub mod Layers
 pub mod Piles
+pub mod Gathering

@@ -6,3 +6,5 @@ pub mod Serials
 pub mod Sheet
 pub mod Recall
 pub mod Pile
+pub mod Listings
+pub mod Going

@@ -4,6 +4,7 @@ ghost use Rattle.std.proofs.Common.{◌∙◌};
 ghost use Rattle.book.specs.Sheet.{sheet_list};
 ghost use Rattle.book.specs.Recall.{recalled_live, recalled_barred, recalled_orderly};
 
+use crate::entries::Entries;
 use crate::entry::Entry;
 use crate::filing::Book;
 use crate::register::Register;
@@ -39,14 +40,8 @@ impl<B: Register> Register for Recall<B> {
     }
 
     fn next_after(&self, serial: u16) -> Option<Entry> {
-        let mut at = serial;
-        while let Some(entry) = self.below.next_after(at) {
-            if !self.sheet.contains(entry.serial) {
-                return Some(entry);
-            }
-            at = entry.serial;
-        }
-        None
+        let mut entries = Entries::new(&self.below, serial);
+        entries.find(|entry| !self.sheet.contains(entry.serial))
     }
 }
 

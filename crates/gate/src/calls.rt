@@ -1,6 +1,8 @@
 // The calls of a gate: naming, filing and striking.
 ghost use Rattle.std.specs.Prelude.{◌≡◌};
 ghost use Rattle.book.specs.Meaning.{means};
+ghost use Rattle.book.specs.Going.{entries_left};
+ghost use Rattle.book.specs.Listings.{all_live};
 ghost use Rattle.book.specs.Live.{next_after};
 ghost use Rattle.terms.specs.Laws.{LawfulNaming, principal_name, principal_named, statement_name, statement_named};
 ghost use Rattle.terms.specs.Rows.{principal_form, principal_x, principal_y, statement_form, statement_x, statement_y};
@@ -8,6 +10,7 @@ ghost use Rattle.gate.specs.Laws.{FiledAt, StruckAt};
 ghost use Rattle.gate.specs.State.{state_of, new_gate, principal_call, principal_left, statement_call, statement_left, standing_numbered, filing, filing_left, striking, striking_left};
 
 use crate::gate::Gate;
+use book::entries::Entries;
 use book::entry::{Entry, Standing};
 use book::filing::Book;
 use book::register::Register;
@@ -49,6 +52,13 @@ impl<B: Book> Gate<B> {
         ensures answer { result ≡ next_after (state_of B.Register.live B.Book.barred B.Book.free self.now).book.live serial }
     {
         self.book.next_after(serial)
+    }
+
+    // All live entries, in rising serial order.
+    pub fn entries(&self) -> Entries<'_, B>
+        ensures entries { entries_left B.Register.live result ≡ all_live (state_of B.Register.live B.Book.barred B.Book.free self.now).book.live }
+    {
+        Entries::new(&self.book, 0)
     }
 
     // Names a principal by its form and operands, and answers its row number.

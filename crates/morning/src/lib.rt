@@ -3,7 +3,6 @@
 
 use book::entry::{BLANK, Entry, Standing};
 use book::filing::Book;
-use book::register::Register;
 use denials::denial::Denial;
 use gate::gate::Gate;
 use records::ledger::Ledger;
@@ -167,10 +166,8 @@ fn tell_entry(rt: &HostRuntime, entry: Entry) -> io::Result<()> {
 // Tells what is live, from entry to entry in rising serial order.
 fn show_book<B: Book>(rt: &HostRuntime, gate: &Gate<B>) -> anyhow::Result<()> {
     println!(rt; "The book now holds:")?;
-    let mut at = 0;
-    while let Some(entry) = gate.next_after(at) {
+    for entry in gate.entries() {
         tell_entry(rt, entry)?;
-        at = entry.serial;
     }
     Ok(())
 }
