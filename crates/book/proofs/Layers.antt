@@ -1,15 +1,16 @@
 -- What a recall layer makes of a call on the book below. Assumes nothing.
-use Rattle.std.proofs.Common.{◌≡◌, ℕ, zero, suc, ◌+◌, ◌-◌, ◌<◌, ◌≤◌, true, false, cond, eqb, List, is_some, Some, None, Err, Option, Result, sym, refl, ap, ◌∙◌, subst, ⊎_elim, arith}
-use Rattle.std.proofs.lemmas.Bool.{cases_eq, cases_lt, cases_order, cond-true, cond-false, both_ways}
+use Rattle.std.proofs.Common.{◌≡◌, ℕ, zero, suc, ◌+◌, ◌-◌, true, false, not, cond, eqb, List, is_some, Some, None, Err, Option, Result, sym, refl, ap, ◌∙◌, ⊎_elim, arith}
+use Rattle.std.proofs.lemmas.Bool.{cases_eq, cases_Bool, cond-true, cond-false, both_ways}
 use Rattle.denials.specs.declared.denial.Denial.{Denial}
 use Rattle.denials.specs.Denials.{denied}
 use Rattle.book.specs.declared.entry.Entry.{Entry}
-use Rattle.book.specs.Live.{Orderly, Follows, Next, next_after}
+use Rattle.std.specs.List.{find}
+use Rattle.std.proofs.lemmas.Grind.{common_steps}
+use Rattle.book.specs.Live.{Orderly, or_else, first_from, next_after}
+use Rattle.book.specs.Listings.{before, gathered, live_above}
 use Rattle.book.specs.Meaning.{Meaning, means, with_entry, without, answered, settled, filing_number, file_answer, file_after, striking_number, strike_answer, strike_after}
-use Rattle.book.specs.Single.{some_none}
-use Rattle.book.specs.Sheet.{on}
-use Rattle.book.specs.Recall.{recalled_live, recalled_barred, recall_means, recalled_here, recalled_other, recalled_none, recalled_orderly}
-use Rattle.book.proofs.Scan.{next_is, scan_next}
+use Rattle.book.specs.Serials.{on}
+use Rattle.book.specs.Recall.{recalled_live, recalled_barred, recall_means, recalled_here, recalled_other, recalled_none}
 use Rattle.book.proofs.Outcomes.{Files, files_not, number_barred, Strikes, strikes_not}
 use Rattle.book.proofs.Exact.{same_meaning, with_here, with_other, without_here, without_other}
 
@@ -103,74 +104,24 @@ module _ (xs : List ℕ) (m : Meaning) where
       let n = recall_means xs m in
       strikes_not n s (Err (denied 11 s)) n (ap is_some (recalled_here xs m.live s listed)) refl refl
 
--- nothing that the layer shows is live above s, up to at
-pub record Passed (xs : List ℕ) (live : ℕ → Option Entry) (s at : ℕ) : Type 0 where
-  pub from : s ≤ at
-  pub none : (t : ℕ) → s < t → t ≤ at → recalled_live xs live t ≡ None
-
-module _ (xs : List ℕ) (live : ℕ → Option Entry) (orderly : Orderly live) (s at : ℕ) (passed : Passed xs live s at) where
-  follows : (e : Entry) → Some e ≡ next_after live at → Follows live at e
-  follows e is = subst (Next live at) (sym is) (scan_next live orderly at)
-
-  pub pass_one : (e : Entry) → Some e ≡ next_after live at → on xs e.serial ≡ true → Passed xs live s e.serial
-  pass_one e is listed =
-      let f = follows e is in
-      record {
-        from = omega (arith, f.above, passed.from);
-        none = λ t lo hi.
-            ⊎_elim
-            (λ (same : t ≡ e.serial). recalled_here xs live t (ap (on xs) same ∙ listed))
-            (⊎_elim
-            (λ (below : t < e.serial).
-            ⊎_elim
-            (λ (eq : t ≡ at). passed.none t lo (omega arith))
-            (⊎_elim
-            (λ (lt : t < at). passed.none t lo (omega arith))
-            (λ (gt : at < t). recalled_none xs live t (f.between t gt below)))
-            (cases_order t at))
-            (λ (above : e.serial < t). absurd (omega arith)))
-            (cases_order t e.serial);
-      }
-
-  pub pass_found :
-      (e : Entry) → Some e ≡ next_after live at → on xs e.serial ≡ false → Some e ≡ next_after (recalled_live xs live) s
-  pass_found e is unlisted =
-      let f = follows e is in
-      next_is (recalled_live xs live) (recalled_orderly xs live orderly) s (Some e)
-      (record {
-        above = omega (arith, f.above, passed.from);
-        found = recalled_other xs live e.serial unlisted ∙ f.found;
-        between = λ t lo hi.
-            ⊎_elim
-            (λ (eq : t ≡ at). passed.none t lo (omega arith))
-            (⊎_elim
-            (λ (lt : t < at). passed.none t lo (omega arith))
-            (λ (gt : at < t). recalled_none xs live t (f.between t gt hi)))
-            (cases_order t at);
-      })
-
-  pub pass_none : None ≡ next_after live at → None ≡ next_after (recalled_live xs live) s
-  pass_none is =
-      let nothing : Next live at None = subst (Next live at) (sym is) (scan_next live orderly at) in
-      next_is (recalled_live xs live) (recalled_orderly xs live orderly) s None
-      (λ t lo.
+-- the first entry that a layer does not hide, going up from a serial
+module _ (xs : List ℕ) (live : ℕ → Option Entry) (orderly : Orderly live) where
+  shown_here :
+      (s : ℕ) (o : Option Entry) (es : List Entry) → live s ≡ o →
+      find (λ e. not (on xs e.serial)) (before o es) ≡ or_else (cond (on xs s) None o) (find (λ e. not (on xs e.serial)) es)
+  shown_here s None es at = elim (on xs s) as (λ b. find (λ e. not (on xs e.serial)) es ≡ or_else (cond b None None) (find (λ e. not (on xs e.serial)) es)) [ true ↦ refl | false ↦ refl ]
+  shown_here s (Some e) es at =
+      let same : on xs e.serial ≡ on xs s = ap (on xs) (orderly.bears s e at) in
       ⊎_elim
-      (λ (eq : t ≡ at). passed.none t lo (omega arith))
-      (⊎_elim
-      (λ (lt : t < at). passed.none t lo (omega arith))
-      (λ (gt : at < t). recalled_none xs live t (nothing t gt)))
-      (cases_order t at))
+      (λ (listed : on xs s ≡ true). grind (arith, common_steps))
+      (λ (unlisted : on xs s ≡ false). grind (arith, common_steps))
+      (cases_Bool (on xs s))
 
-pub passed_none : (xs : List ℕ) (live : ℕ → Option Entry) (s : ℕ) → Passed xs live s s
-passed_none xs live s = record { from = omega arith; none = λ t lo hi. absurd (omega arith) }
+  shown_first : (n s : ℕ) → find (λ e. not (on xs e.serial)) (gathered live s n) ≡ first_from (recalled_live xs live) s n
+  unfolding gathered
+  shown_first zero s = refl
+  shown_first (suc n) s =
+      shown_here s (live s) (gathered live (suc s) n) refl ∙ ap (or_else (recalled_live xs live s)) (shown_first n (suc s))
 
--- the next entry is nearer to the last serial
-pub nearer :
-    (live : ℕ → Option Entry) → Orderly live → (at : ℕ) (e : Entry) → Some e ≡ next_after live at →
-    65535 - e.serial < 65535 - at
-nearer live orderly at e is =
-    let f : Follows live at e = subst (Next live at) (sym is) (scan_next live orderly at) in
-    ⊎_elim
-    (λ (past : 65535 < e.serial). absurd (some_none (live e.serial) e f.found (orderly.ends e.serial past)))
-    (λ (within : e.serial ≤ 65535). omega (arith, f.above))
-    (cases_lt 65535 e.serial)
+  pub shown_next : (s : ℕ) → find (λ e. not (on xs e.serial)) (live_above live s) ≡ next_after (recalled_live xs live) s
+  shown_next s = shown_first (65535 - s) (suc s)

@@ -1,6 +1,6 @@
 pub mod Scan
 pub mod Outcomes
 pub mod Exact
-pub mod Listed
 pub mod Layers
 pub mod Piles
+pub mod Gathering

@@ -3,7 +3,7 @@ use Rattle.std.proofs.Common.{◌≡◌, ℕ, true, false, List, Err, sym, refl,
 use Rattle.std.proofs.lemmas.Bool.{cases_Bool, cond-true, cond-false}
 use Rattle.denials.specs.Denials.{denied}
 use Rattle.book.specs.Meaning.{Meaning, file_answer, file_after, strike_answer, strike_after}
-use Rattle.book.specs.Sheet.{on}
+use Rattle.book.specs.Serials.{on}
 use Rattle.book.specs.Recall.{recall_means, recalled_here, recalled_other, recalled_none}
 use Rattle.book.specs.Pile.{piled, Recalled, PassedOn, Piled}
 use Rattle.book.proofs.Layers.{recalled_files, recalled_strikes, files_below, strikes_below}

@@ -2,6 +2,9 @@ pub mod Live
 pub mod Single
 pub mod Meaning
 pub mod Laws
+pub mod Serials
 pub mod Sheet
 pub mod Recall
 pub mod Pile
+pub mod Listings
+pub mod Going

@@ -6,7 +6,7 @@ use Rattle.std.specs.Prelude.{◌≡◌, ℕ, true, false, ◌⊎◌, List, None
 use Rattle.denials.specs.Denials.{denied}
 use Rattle.book.specs.declared.entry.Entry.{Entry}
 use Rattle.book.specs.Meaning.{Meaning, file_answer, file_after, strike_answer, strike_after}
-use Rattle.book.specs.Sheet.{on}
+use Rattle.book.specs.Serials.{on}
 use Rattle.book.specs.Recall.{recall_means}
 
 abbrev pub piled : List ℕ → List ℕ → Meaning → Meaning

@@ -8,7 +8,7 @@ use Rattle.book.specs.declared.entry.Entry.{Entry}
 use Rattle.book.specs.Live.{Orderly}
 use Rattle.book.specs.Meaning.{Meaning, means}
 use Rattle.book.specs.Single.{some_none}
-use Rattle.book.specs.Sheet.{on}
+use Rattle.book.specs.Serials.{on}
 
 abbrev pub recalled_live : List ℕ → (ℕ → Option Entry) → ℕ → Option Entry
 recalled_live xs live s = cond (on xs s) None (live s)

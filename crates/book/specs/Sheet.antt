@@ -1,25 +1,15 @@
--- on xs s                  whether serial s is on a sheet of the serials xs
 -- sheet_list t             the serials on the sheet t, in the order in which they were added
--- SheetSound t             what a sheet keeps true: it has room for 64 serials, and 0 is not on it
 -- sheet_add_number xs s    0 if s can be added, or the number of the denial
 -- sheet_add_answer xs s    what adding s answers
 -- sheet_add_after xs s     the serials on the sheet after adding s
-use Rattle.std.specs.Prelude.{◌≡◌, ℕ, ◌≤◌, Bool, true, false, cond, List, [], ◌∷◌, ◌++◌, length, take, Result, ◌==◌, nat_le}
+use Rattle.std.specs.Prelude.{ℕ, cond, List, [], ◌∷◌, ◌++◌, length, take, Result, ◌==◌, nat_le}
 use Rattle.denials.specs.declared.denial.Denial.{Denial}
 use Rattle.book.specs.declared.sheet.Sheet.{Sheet}
 use Rattle.book.specs.Meaning.{answered}
-
-abbrev pub on : List ℕ → ℕ → Bool
-on [] s = false
-on (x ∷ xs) s = cond (x == s) true (on xs s)
+use Rattle.book.specs.Serials.{on}
 
 abbrev pub sheet_list : Sheet → List ℕ
 sheet_list t = take t.count t.serials
-
-pub record SheetSound (t : Sheet) : Type 0 where
-  pub room : length t.serials ≡ 64
-  pub fits : t.count ≤ 64
-  pub numbered : on (sheet_list t) 0 ≡ false
 
 abbrev pub sheet_add_number : List ℕ → ℕ → ℕ
 sheet_add_number xs s =

@@ -13,26 +13,23 @@ pub trait Book: Register {
     // The number of free places.
     ghost free: { Self → ℕ };
 
-    // What no call touches, as the records behind those that a book uses. It holds of a book and itself, and from call to call.
+    // What no call touches, as the records behind those that a book uses.
     ghost behind: { Self → Self → Type 0 };
-
-    ghost still: { (b : Self) → behind b b };
-
-    ghost onward: { (a b c : Self) → behind a b → behind b c → behind a c };
 
     // Adds a live entry, which takes one free place.
     fn file(&mut self, entry: Entry) -> Result<(), Denial>
-        requires { Self.sound self.old }
-        ensures sound { Self.sound self.new }
         ensures answer { result ≡ file_answer (means (Self.live self.old) (barred self.old) (free self.old)) entry }
         ensures after { means (Self.live self.new) (barred self.new) (free self.new) ≡ file_after (means (Self.live self.old) (barred self.old) (free self.old)) entry }
         ensures behind { behind self.old self.new };
 
     // Removes a live entry, which frees one place.
     fn strike(&mut self, serial: u16) -> Result<(), Denial>
-        requires { Self.sound self.old }
-        ensures sound { Self.sound self.new }
         ensures answer { result ≡ strike_answer (means (Self.live self.old) (barred self.old) (free self.old)) serial }
         ensures after { means (Self.live self.new) (barred self.new) (free self.new) ≡ strike_after (means (Self.live self.old) (barred self.old) (free self.old)) serial }
         ensures behind { behind self.old self.new };
+
+    // What no call touches is the same in a book and itself, and from call to call.
+    ghost still: { (b : Self) → behind b b };
+
+    ghost onward: { (a b c : Self) → behind a b → behind b c → behind a c };
 }

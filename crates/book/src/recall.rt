@@ -1,9 +1,10 @@
 // The recall layer: over any book, it bars the serials on a sheet and hides their entries.
 ghost use Rattle.std.specs.Prelude.{◌≡◌, refl};
 ghost use Rattle.std.proofs.Common.{◌∙◌};
-ghost use Rattle.book.specs.Sheet.{sheet_list, SheetSound};
+ghost use Rattle.book.specs.Sheet.{sheet_list};
 ghost use Rattle.book.specs.Recall.{recalled_live, recalled_barred, recalled_orderly};
 
+use crate::entries::Entries;
 use crate::entry::Entry;
 use crate::filing::Book;
 use crate::register::Register;
@@ -27,11 +28,9 @@ impl<B> Recall<B> {
 }
 
 impl<B: Register> Register for Recall<B> {
-    ghost sound = { λ b. SheetSound b.sheet × B.Register.sound b.below };
-
     ghost live = { λ b. recalled_live (sheet_list b.sheet) (B.Register.live b.below) };
 
-    ghost orderly = { λ b ok. recalled_orderly (sheet_list b.sheet) (B.Register.live b.below) (B.Register.orderly b.below ok.1) };
+    ghost orderly = { λ b. recalled_orderly (sheet_list b.sheet) (B.Register.live b.below) (B.Register.orderly b.below) };
 
     fn lookup(&self, serial: u16) -> Option<Entry> {
         if self.sheet.contains(serial) {
@@ -41,14 +40,8 @@ impl<B: Register> Register for Recall<B> {
     }
 
     fn next_after(&self, serial: u16) -> Option<Entry> {
-        let mut at = serial;
-        while let Some(entry) = self.below.next_after(at) {
-            if !self.sheet.contains(entry.serial) {
-                return Some(entry);
-            }
-            at = entry.serial;
-        }
-        None
+        let mut entries = Entries::new(&self.below, serial);
+        entries.find(|entry| !self.sheet.contains(entry.serial))
     }
 }
 

@@ -7,21 +7,16 @@ use crate::entry::Entry;
 
 // What can be looked up in a book.
 pub trait Register {
-    // What the implementation keeps true of its records. Every constructor ensures it, and every call keeps it.
-    ghost sound: { Self → Type 0 };
-
     // The live entry of each serial.
     ghost live: { Self → ℕ → Option Entry };
 
-    ghost orderly: { (b : Self) → sound b → Orderly (live b) };
-
     // The live entry of a serial, or nothing.
     fn lookup(&self, serial: u16) -> Option<Entry>
-        requires { sound self.now }
         ensures answer { result ≡ live self.now serial };
 
     // The live entry with the lowest serial above the given one, or nothing.
     fn next_after(&self, serial: u16) -> Option<Entry>
-        requires { sound self.now }
         ensures answer { result ≡ next_after (live self.now) serial };
+
+    ghost orderly: { (b : Self) → Orderly (live b) };
 }

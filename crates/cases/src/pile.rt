@@ -1,7 +1,7 @@
 // One pile of two recall layers over a ledger that already holds a recalled entry, worked through the real books.
 ghost use Rattle.std.specs.Prelude.{◌≡◌, ◌<◌, [], ◌∷◌};
 ghost use Rattle.book.specs.Meaning.{means};
-ghost use Rattle.book.specs.Sheet.{sheet_list, SheetSound};
+ghost use Rattle.book.specs.Sheet.{sheet_list};
 ghost use Rattle.cases.specs.Pile.{asked, WorkedPile};
 
 use book::entry::{Entry, Standing};
@@ -23,8 +23,6 @@ pub(crate) struct Answers {
 
 // Puts the four questions to a book.
 fn ask<B: Book>(book: &mut B, entry: Entry, other: Entry) -> Answers
-    requires { B.Register.sound book.old }
-    ensures sound { B.Register.sound book.new }
     ensures answer { result ≡ asked (means (B.Register.live book.old) (B.Book.barred book.old) (B.Book.free book.old)) entry other }
 {
     let found = book.lookup(entry.serial);
@@ -42,7 +40,6 @@ fn ask<B: Book>(book: &mut B, entry: Entry, other: Entry) -> Answers
 // A sheet with one serial on it.
 fn sheet_of(serial: u16) -> Sheet
     requires { 0 < serial }
-    ensures sound { SheetSound result }
     ensures list { sheet_list result ≡ serial ∷ [] }
 {
     let mut sheet = Sheet::new();

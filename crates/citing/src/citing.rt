@@ -87,7 +87,6 @@ fn cite_entry(names: &Names, rule: Rule, entry: Option<Entry>) -> Option<Operand
 
 // A serial becomes the row of its entry; every other operand stays. The book is asked here and nowhere else.
 fn cited<R: Register>(names: &Names, book: &R, rule: Rule, operand: Operand) -> Option<Operand>
-    requires { R.Register.sound book.now }
     ensures { result ≡ cited (given (rows_of names.now) (R.Register.live book.now)) rule operand }
 {
     match operand {
@@ -107,7 +106,7 @@ pub fn move_of<R: Register>(
     line: Line,
     number: u64,
 ) -> Result<Move, Denial>
-    requires { (R.Register.sound book.now) × ((TrailSound blank_fact facts.old) × ((TrailSound blank_link links.old) × (worlds ≤ 1024))) }
+    requires { (TrailSound blank_fact facts.old) × ((TrailSound blank_link links.old) × (worlds ≤ 1024)) }
     ensures answer { result ≡ line_move (given (rows_of names.now) (R.Register.live book.now)) (branch (entries_of facts.old) (entries_of links.old) worlds) shape line number }
     ensures facts { facts.new ≡ facts.old }
     ensures links { links.new ≡ links.old }

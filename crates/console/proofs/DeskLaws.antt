@@ -1,10 +1,8 @@
--- The console's gates as a list: soundness, places, and what each looks like on the desk.
-use Rattle.std.proofs.Common.{◌≡◌, ℕ, zero, suc, ◌<◌, ◌≤◌, Bool, true, false, cond, eqb, leb, List, [], ◌∷◌, ◌++◌, map, length, get_or, set, is_some, Some, Result, sym, refl, ap, ◌∙◌, subst, inl, inr, arith, le-leb}
+-- The console's gates as a list: places, and what each looks like on the desk.
+use Rattle.std.proofs.Common.{◌≡◌, ℕ, zero, suc, ◌+◌, ◌<◌, ◌≤◌, Bool, true, false, cond, eqb, leb, List, [], ◌∷◌, map, length, get_or, is_some, Some, Result, sym, refl, ap, ◌∙◌, subst, arith, le-leb}
 use Rattle.std.specs.List.{position, prefix_len, slice_get}
-use Rattle.std.proofs.lemmas.Bool.{cases_eq}
+use Rattle.std.specs.Prelude.{not}
 use Rattle.std.proofs.lemmas.List.{length-map}
-use Rattle.std.specs.Prelude.{◌+◌, not}
-use Rattle.terms.proofs.Nths.{nth_push}
 use Rattle.gate.specs.declared.gate.Gate.{Gate}
 use Rattle.std.proofs.lemmas.Option.{slice_get-get_or}
 use borrow.Author.Tests.{lt-leb}
@@ -12,34 +10,8 @@ use Rattle.denials.specs.declared.denial.Denial.{Denial}
 use Rattle.gate.specs.State.{State}
 use Rattle.console.specs.declared.answer.Fault.TheVariants.{OpenAlready, NinthGate}
 use Rattle.console.specs.Replies.{Reply, unreadable}
-use Rattle.console.specs.Desks.{Desk, AllSound, place_at, place_of, Only, Makes, Opens}
-use Rattle.console.specs.Piles.{Pile, PileSound, pile_state}
-
-pub sound_push : (gs : List (Gate Pile)) (g : Gate Pile) → AllSound gs → PileSound g.book → AllSound (gs ++ (g ∷ []))
-sound_push gs g all here k x e =
-    elim (nth_push gs g k x e) [
-      | inl old ↦ all k x old
-      | inr last ↦ subst (λ y. PileSound y.book) (sym last.1) here
-    ]
-
-nth_set_same : {X : Type 0} (xs : List X) (i : ℕ) (y : X) (x : X) → slice_get (set xs i y) i ≡ Some x → x ≡ y
-nth_set_same [] i y x e = let z : ◌≡◌ {A = ℕ} 0 1 = cc in absurd (omega arith)
-nth_set_same (z ∷ zs) zero y x e = cc
-nth_set_same (z ∷ zs) (suc i) y x e = nth_set_same zs i y x e
-
-nth_set_other : {X : Type 0} (xs : List X) (i k : ℕ) (y : X) → (k ≡ i → ⊥) → slice_get (set xs i y) k ≡ slice_get xs k
-nth_set_other [] i k y apart = refl
-nth_set_other (z ∷ zs) zero zero y apart = absurd (apart refl)
-nth_set_other (z ∷ zs) zero (suc k) y apart = refl
-nth_set_other (z ∷ zs) (suc i) zero y apart = refl
-nth_set_other (z ∷ zs) (suc i) (suc k) y apart = nth_set_other zs i k y (λ e. apart (ap suc e))
-
-pub sound_set : (gs : List (Gate Pile)) (i : ℕ) (g : Gate Pile) → AllSound gs → PileSound g.book → AllSound (set gs i g)
-sound_set gs i g all here k x e =
-    elim (cases_eq k i) [
-      | inl same ↦ subst (λ y. PileSound y.book) (sym (nth_set_same gs i g x (subst (λ n. slice_get (set gs i g) n ≡ Some x) same e))) here
-      | inr apart ↦ all k x (sym (nth_set_other gs i k g apart) ∙ e)
-    ]
+use Rattle.console.specs.Desks.{Desk, place_at, place_of, Only, Makes, Opens}
+use Rattle.console.specs.Piles.{Pile, pile_state}
 
 prefix_len_map : {X Y : Type 0} (f : X → Y) (is : Y → Bool) (xs : List X) → prefix_len is (map f xs) ≡ prefix_len (λ x. is (f x)) xs
 prefix_len_map f is [] = refl

@@ -2,7 +2,6 @@
 --
 -- Desk                      the states of the open gates, in the order of opening, and which is current
 -- desk_of c                 the desk of the console c
--- ConsoleSound c            the books of all its gates keep what they have to
 -- place_of n gs             where the gate with the number n stands
 -- Admits d g r e            a gate in the state g was taken in and made current, or there is no memory and nothing changed
 -- Opens d n opened r e      what `open` answers and leaves
@@ -23,7 +22,7 @@ use Rattle.console.specs.declared.deed.Deed.{Deed}
 use Rattle.console.specs.declared.deed.Deed.TheVariants.{Principal, Statement, File, Strike, List as Listing}
 use Rattle.console.specs.Deeds.{reply, Replies, deed_left, OutOfMemory}
 use Rattle.console.specs.Openings.{opened}
-use Rattle.console.specs.Piles.{Pile, PileSound, pile_state}
+use Rattle.console.specs.Piles.{Pile, pile_state}
 use Rattle.console.specs.Replies.{Reply, opened_gate, at_gate, row, filed, struck, refused, unreadable, live}
 
 pub record Desk : Type 0 where
@@ -35,12 +34,6 @@ desk gs n = record { gates = gs; current = n }
 
 abbrev pub desk_of : Console → Desk
 desk_of c = desk (map pile_state (vec_items c.gates)) c.current
-
-abbrev pub AllSound : List (Gate Pile) → Type 0
-AllSound gs = (k : ℕ) (g : Gate Pile) → slice_get gs k ≡ Some g → PileSound g.book
-
-abbrev pub ConsoleSound : Console → Type 0
-ConsoleSound c = AllSound (vec_items c.gates)
 
 abbrev pub place_of : ℕ → List (Gate Pile) → Option ℕ
 place_of n gs = position (λ g. nat_eq g.number n) gs

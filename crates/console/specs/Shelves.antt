@@ -1,22 +1,16 @@
 -- What a console's lowest book means.
 --
--- ShelfSound b                what its records keep true
 -- shelf_live b s              its live entry under the serial s
 -- shelf_barred b s            whether it bars the serial s
 -- shelf_free b                its free places
 use Rattle.std.specs.Prelude.{ℕ, ◌-◌, Bool, false, Option}
 use Rattle.book.specs.declared.entry.Entry.{Entry}
-use Rattle.records.specs.Card.{CardSound, card_live, card_barred, card_free, card_orderly}
+use Rattle.records.specs.Card.{card_live, card_barred, card_free, card_orderly}
 use Rattle.book.specs.Live.{Orderly}
 use Rattle.records.specs.Orderly.{kept_orderly}
-use Rattle.records.specs.Owned.{OwnedSound}
 use Rattle.records.specs.Records.{held}
 use Rattle.console.specs.declared.shelf.Shelf.{Shelf}
 use Rattle.console.specs.declared.shelf.Shelf.TheVariants.{Ledger, Card}
-
-abbrev pub ShelfSound : Shelf → Type 0
-ShelfSound (Ledger l) = OwnedSound l.records l.size l.count
-ShelfSound (Card c) = CardSound c.cards
 
 abbrev pub shelf_live : Shelf → ℕ → Option Entry
 shelf_live (Ledger l) = held l.records l.count
@@ -30,6 +24,6 @@ abbrev pub shelf_free : Shelf → ℕ
 shelf_free (Ledger l) = l.size - l.count
 shelf_free (Card c) = card_free c.cards
 
-pub shelf_orderly : (b : Shelf) → ShelfSound b → Orderly (shelf_live b)
-shelf_orderly (Ledger l) ok = kept_orderly l.records l.size l.count ok.kept
-shelf_orderly (Card c) ok = card_orderly c.cards ok
+pub shelf_orderly : (b : Shelf) → Orderly (shelf_live b)
+shelf_orderly (Ledger l) = kept_orderly l.records l.size l.count l.sound.kept
+shelf_orderly (Card c) = card_orderly c.cards c.sound

@@ -50,7 +50,6 @@ fn struck(res: Result<(), Denial>) -> Answer
 }
 
 fn list<B: Book>(heap: Global, gate: &Gate<B>) -> Answer
-    requires { B.Register.sound gate.now.book }
     ensures answer { Lists (all_live (B.Register.live gate.now.book)) (reply result) }
 {
     match live_entries(heap, gate) {
@@ -61,8 +60,6 @@ fn list<B: Book>(heap: Global, gate: &Gate<B>) -> Answer
 
 // Does the deed at the gate and answers what came of it.
 pub(crate) fn act<B: Book>(heap: Global, gate: &mut Gate<B>, deed: Deed) -> Answer
-    requires { B.Register.sound gate.old.book }
-    ensures sound { B.Register.sound gate.new.book }
     ensures answer { Replies deed (state_of B.Register.live B.Book.barred B.Book.free gate.old) (reply result) }
     ensures after { state_of B.Register.live B.Book.barred B.Book.free gate.new ≡ deed_left deed (state_of B.Register.live B.Book.barred B.Book.free gate.old) }
 {

@@ -2,8 +2,8 @@
 ghost use Rattle.std.specs.Prelude.{◌≡◌, ◌<◌, [], length, IfSome};
 ghost use Rattle.job.specs.Commands.{said, reading};
 ghost use Rattle.console.specs.Deeds.{reply};
-ghost use Rattle.console.specs.Desks.{ConsoleSound, desk, desk_of, place_of, Admits, Opens, turn_reply, turned, AtGate, Did, Heeded, answered_as};
-ghost use Rattle.console.specs.Piles.{PileSound, pile_state};
+ghost use Rattle.console.specs.Desks.{desk, desk_of, place_of, Admits, Opens, turn_reply, turned, AtGate, Did, Heeded, answered_as};
+ghost use Rattle.console.specs.Piles.{pile_state};
 ghost use Rattle.job.specs.Books.{held_in, sheets, floor_of};
 ghost use Rattle.job.specs.Words.{words};
 ghost use Rattle.console.specs.Openings.{opened};
@@ -30,7 +30,6 @@ fn place_of(gates: &[Gate<Pile>], number: u32) -> Option<usize>
 impl Console {
     // A console with no gate open.
     pub fn new(heap: Global) -> Console
-        ensures sound { ConsoleSound result }
         ensures desk { desk_of result ≡ desk [] 0 }
     {
         Console {
@@ -42,8 +41,6 @@ impl Console {
 
     // Takes a gate in and makes it current.
     fn admit(&mut self, gate: Gate<Pile>) -> Answer
-        requires { (ConsoleSound self.old) × (PileSound gate.book) }
-        ensures sound { ConsoleSound self.new }
         ensures did { Admits (desk_of self.old) (pile_state gate) (reply result) (desk_of self.new) }
     {
         let number = gate.number();
@@ -59,8 +56,6 @@ impl Console {
 
     // Opens the gate that an opening asks for and makes it current.
     fn open(&mut self, opening: Opening) -> Answer
-        requires { ConsoleSound self.old }
-        ensures sound { ConsoleSound self.new }
         ensures did { Opens (desk_of self.old) opening.entry.gate (opened opening.entry.gate (sheets opening.entry.layers) (floor_of opening.entry.ground) (held_in (words opening.entry.entries.now))) (reply result) (desk_of self.new) }
     {
         if place_of(&self.gates, opening.gate).is_some() {
@@ -77,8 +72,6 @@ impl Console {
 
     // Makes an open gate current.
     fn turn(&mut self, number: u32) -> Answer
-        requires { ConsoleSound self.old }
-        ensures sound { ConsoleSound self.new }
         ensures answer { reply result ≡ turn_reply (desk_of self.old) number }
         ensures after { desk_of self.new ≡ turned (desk_of self.old) number }
     {
@@ -93,8 +86,6 @@ impl Console {
 
     // Does a deed at the current gate.
     fn at_gate(&mut self, deed: Deed) -> Answer
-        requires { ConsoleSound self.old }
-        ensures sound { ConsoleSound self.new }
         ensures did { AtGate (desk_of self.old) deed (reply result) (desk_of self.new) }
     {
         let current = self.current;
@@ -109,8 +100,6 @@ impl Console {
 
     // Does a command.
     fn obey(&mut self, command: Command) -> Answer
-        requires { ConsoleSound self.old }
-        ensures sound { ConsoleSound self.new }
         ensures did { Did (desk_of self.old) (said command.entry) (reply result) (desk_of self.new) }
     {
         match command {
@@ -134,8 +123,6 @@ impl Console {
 
     // Does one line of a job, without its newline; a silent line has no answer.
     pub fn line(&mut self, line: &[u8]) -> Option<Answer>
-        requires { ConsoleSound self.old }
-        ensures sound { ConsoleSound self.new }
         ensures heeded { Heeded (desk_of self.old) (reading line.now) (answered_as result) (desk_of self.new) }
     {
         match read_line(line) {

@@ -11,14 +11,7 @@ use std::alloc::{AllocError, Global};
 
 // The live entries in rising serial order.
 pub(crate) fn live_entries<B: Book>(heap: Global, gate: &Gate<B>) -> Result<Vec<Entry>, AllocError>
-    requires { B.Register.sound gate.now.book }
     ensures entries { IfOk result (λ v. v.items ≡ all_live (B.Register.live gate.now.book)) }
 {
-    let mut entries = Vec::new(heap);
-    let mut at = 0;
-    while let Some(entry) = gate.next_after(at) {
-        entries.push(entry)?;
-        at = entry.serial;
-    }
-    Ok(entries)
+    gate.entries().collect(heap)
 }

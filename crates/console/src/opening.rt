@@ -1,11 +1,10 @@
 // Opening a gate: filling the sheets of its layers, stocking its lowest book, and laying one over the other.
-ghost use Rattle.std.specs.Prelude.{◌≡◌, [], IfOk, Ok, Err, MatchResult};
-ghost use Rattle.book.specs.Sheet.{sheet_list, SheetSound};
+ghost use Rattle.std.specs.Prelude.{◌≡◌, [], Ok, Err, MatchResult};
+ghost use Rattle.book.specs.Sheet.{sheet_list};
 ghost use Rattle.job.specs.Books.{listed, held_in, sheets, floor_of};
 ghost use Rattle.job.specs.Words.{words};
 ghost use Rattle.console.specs.Openings.{filled, both_filled, stocked, opened, standing_of, shelf_means, floor_means};
-ghost use Rattle.console.specs.Piles.{PileSound, pile_state};
-ghost use Rattle.console.specs.Shelves.{ShelfSound};
+ghost use Rattle.console.specs.Piles.{pile_state};
 
 use crate::shelf::Shelf;
 use book::entry::{Entry, Standing};
@@ -24,7 +23,6 @@ pub type Pile = Recall<Recall<Shelf>>;
 // A sheet with the serials of the text on it.
 fn fill(text: &[u8]) -> Result<Sheet, Denial>
     ensures answer { MatchResult result (λ s. filled [] (listed (words text.now)) ≡ Ok (sheet_list s)) (λ d. filled [] (listed (words text.now)) ≡ Err d) }
-    ensures sound { IfOk result SheetSound }
 {
     let mut sheet = Sheet::new();
     let mut rest = text;
@@ -47,9 +45,7 @@ fn standing_of(number: u8) -> Standing
 
 // The book with the entries of the text filed in it.
 fn stock(book: Shelf, text: &[u8]) -> Result<Shelf, Denial>
-    requires { ShelfSound book }
     ensures answer { MatchResult result (λ b. stocked (shelf_means book) (held_in (words text.now)) ≡ Ok (shelf_means b)) (λ d. stocked (shelf_means book) (held_in (words text.now)) ≡ Err d) }
-    ensures sound { IfOk result ShelfSound }
 {
     let mut stocked = book;
     let mut rest = text;
@@ -67,7 +63,6 @@ fn stock(book: Shelf, text: &[u8]) -> Result<Shelf, Denial>
 // A new lowest book.
 fn lowest(ground: Ground) -> Shelf
     ensures means { shelf_means result ≡ floor_means (floor_of ground) }
-    ensures sound { ShelfSound result }
 {
     match ground {
         Ground::Ledger(records) => Shelf::Ledger(OwnedLedger::new(records as usize)),
@@ -78,7 +73,6 @@ fn lowest(ground: Ground) -> Shelf
 // The sheets of the upper and the lower layer.
 fn sheets_of(layers: Layers) -> Result<(Sheet, Sheet), Denial>
     ensures answer { MatchResult result (λ p. both_filled (sheets layers.entry) ≡ Ok (sheet_list p.0, sheet_list p.1)) (λ d. both_filled (sheets layers.entry) ≡ Err d) }
-    ensures sound { IfOk result (λ p. SheetSound p.0 × SheetSound p.1) }
 {
     match layers {
         Layers::Bare => Ok((Sheet::new(), Sheet::new())),
@@ -90,7 +84,6 @@ fn sheets_of(layers: Layers) -> Result<(Sheet, Sheet), Denial>
 // The gate that an opening asks for, or what a sheet or the book denied.
 pub(crate) fn open_gate(opening: Opening) -> Result<Gate<Pile>, Denial>
     ensures answer { MatchResult result (λ g. opened opening.entry.gate (sheets opening.entry.layers) (floor_of opening.entry.ground) (held_in (words opening.entry.entries.now)) ≡ Ok (pile_state g)) (λ d. opened opening.entry.gate (sheets opening.entry.layers) (floor_of opening.entry.ground) (held_in (words opening.entry.entries.now)) ≡ Err d) }
-    ensures sound { IfOk result (λ g. PileSound g.book) }
 {
     let (upper, lower) = sheets_of(opening.layers)?;
     let book = stock(lowest(opening.ground), opening.entries)?;

@@ -1,5 +1,5 @@
 // The lowest book of a console's gate: a ledger with its records inside, or a card book.
-ghost use Rattle.console.specs.Shelves.{ShelfSound, shelf_live, shelf_orderly, shelf_barred, shelf_free};
+ghost use Rattle.console.specs.Shelves.{shelf_live, shelf_orderly, shelf_barred, shelf_free};
 
 use book::entry::Entry;
 use book::filing::Book;
@@ -15,8 +15,6 @@ pub enum Shelf {
 }
 
 impl Register for Shelf {
-    ghost sound = { ShelfSound };
-
     ghost live = { shelf_live };
 
     ghost orderly = { shelf_orderly };

@@ -1,2 +1,1 @@
 pub mod AtGate
-pub mod Gathering

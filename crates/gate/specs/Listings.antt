@@ -1,17 +1,2 @@
--- The live entries of a book as a list.
---
--- gathered live s n     the live entries among the n serials from s on, in rising order
--- all_live live         all live entries in rising serial order
-use Rattle.std.specs.Prelude.{ℕ, zero, suc, List, [], ◌∷◌, Some, None, Option}
-use Rattle.book.specs.declared.entry.Entry.{Entry}
-
-abbrev pub before : Option Entry → List Entry → List Entry
-before None es = es
-before (Some e) es = e ∷ es
-
-unfoldable pub gathered : (ℕ → Option Entry) → ℕ → ℕ → List Entry
-gathered live s zero = []
-gathered live s (suc n) = before (live s) (gathered live (suc s) n)
-
-abbrev pub all_live : (ℕ → Option Entry) → List Entry
-all_live live = gathered live 1 65535
+-- The live entries of a gate's book as a list (book/specs/Listings.antt).
+pub use Rattle.book.specs.Listings.{gathered, all_live}

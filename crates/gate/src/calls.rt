@@ -1,6 +1,8 @@
 // The calls of a gate: naming, filing and striking.
 ghost use Rattle.std.specs.Prelude.{◌≡◌};
 ghost use Rattle.book.specs.Meaning.{means};
+ghost use Rattle.book.specs.Going.{entries_left};
+ghost use Rattle.book.specs.Listings.{all_live};
 ghost use Rattle.book.specs.Live.{next_after};
 ghost use Rattle.terms.specs.Laws.{LawfulNaming, principal_name, principal_named, statement_name, statement_named};
 ghost use Rattle.terms.specs.Rows.{principal_form, principal_x, principal_y, statement_form, statement_x, statement_y};
@@ -8,6 +10,7 @@ ghost use Rattle.gate.specs.Laws.{FiledAt, StruckAt};
 ghost use Rattle.gate.specs.State.{state_of, new_gate, principal_call, principal_left, statement_call, statement_left, standing_numbered, filing, filing_left, striking, striking_left};
 
 use crate::gate::Gate;
+use book::entries::Entries;
 use book::entry::{Entry, Standing};
 use book::filing::Book;
 use book::register::Register;
@@ -28,8 +31,6 @@ fn standing_numbered(number: u8) -> Option<Standing>
 impl<B: Book> Gate<B> {
     // A gate with no rows over a book that may already hold entries.
     pub fn new(number: u32, book: B) -> Gate<B>
-        requires { B.Register.sound book }
-        ensures sound { B.Register.sound result.book }
         ensures state { state_of B.Register.live B.Book.barred B.Book.free result ≡ new_gate number (means (B.Register.live book) (B.Book.barred book) (B.Book.free book)) }
     {
         Gate {
@@ -48,16 +49,20 @@ impl<B: Book> Gate<B> {
 
     // The live entry with the lowest serial above the given one, or nothing.
     pub fn next_after(&self, serial: u16) -> Option<Entry>
-        requires { B.Register.sound self.now.book }
         ensures answer { result ≡ next_after (state_of B.Register.live B.Book.barred B.Book.free self.now).book.live serial }
     {
         self.book.next_after(serial)
     }
 
+    // All live entries, in rising serial order.
+    pub fn entries(&self) -> Entries<'_, B>
+        ensures entries { entries_left B.Register.live result ≡ all_live (state_of B.Register.live B.Book.barred B.Book.free self.now).book.live }
+    {
+        Entries::new(&self.book, 0)
+    }
+
     // Names a principal by its form and operands, and answers its row number.
     pub fn principal(&mut self, form: u8, x: u16, y: u16) -> Result<u16, Denial>
-        requires { B.Register.sound self.old.book }
-        ensures sound { B.Register.sound self.new.book }
         ensures answer { result ≡ principal_call (state_of B.Register.live B.Book.barred B.Book.free self.old) form x y }
         ensures after { state_of B.Register.live B.Book.barred B.Book.free self.new ≡ principal_left (state_of B.Register.live B.Book.barred B.Book.free self.old) form x y }
         ensures lawful { LawfulNaming principal_form principal_x principal_y (λ t. t.principals) principal_name principal_named (state_of B.Register.live B.Book.barred B.Book.free self.old).rows form x y }
@@ -67,8 +72,6 @@ impl<B: Book> Gate<B> {
 
     // Names a statement by its form and operands, and answers its row number.
     pub fn statement(&mut self, form: u8, x: u16, y: u16) -> Result<u16, Denial>
-        requires { B.Register.sound self.old.book }
-        ensures sound { B.Register.sound self.new.book }
         ensures answer { result ≡ statement_call (state_of B.Register.live B.Book.barred B.Book.free self.old) form x y }
         ensures after { state_of B.Register.live B.Book.barred B.Book.free self.new ≡ statement_left (state_of B.Register.live B.Book.barred B.Book.free self.old) form x y }
         ensures lawful { LawfulNaming statement_form statement_x statement_y (λ t. t.statements) statement_name statement_named (state_of B.Register.live B.Book.barred B.Book.free self.old).rows form x y }
@@ -78,8 +81,6 @@ impl<B: Book> Gate<B> {
 
     // Tries the standing and the row, and then files in the book.
     fn file_row(&mut self, serial: u16, standing: u8, row: u16) -> Result<(), Denial>
-        requires { B.Register.sound self.old.book }
-        ensures sound { B.Register.sound self.new.book }
         ensures answer { result ≡ filing (state_of B.Register.live B.Book.barred B.Book.free self.old) serial standing row }
         ensures after { state_of B.Register.live B.Book.barred B.Book.free self.new ≡ filing_left (state_of B.Register.live B.Book.barred B.Book.free self.old) serial standing row }
     {
@@ -104,8 +105,6 @@ impl<B: Book> Gate<B> {
 
     // Files a statement row under a serial, as a rule (standing 1) or a saying (standing 2).
     pub fn file(&mut self, serial: u16, standing: u8, row: u16) -> Result<(), Denial>
-        requires { B.Register.sound self.old.book }
-        ensures sound { B.Register.sound self.new.book }
         ensures answer { result ≡ filing (state_of B.Register.live B.Book.barred B.Book.free self.old) serial standing row }
         ensures after { state_of B.Register.live B.Book.barred B.Book.free self.new ≡ filing_left (state_of B.Register.live B.Book.barred B.Book.free self.old) serial standing row }
         ensures filed { FiledAt (state_of B.Register.live B.Book.barred B.Book.free self.old) serial standing row result (state_of B.Register.live B.Book.barred B.Book.free self.new) }
@@ -115,8 +114,6 @@ impl<B: Book> Gate<B> {
 
     // Strikes the live entry of a serial.
     pub fn strike(&mut self, serial: u16) -> Result<(), Denial>
-        requires { B.Register.sound self.old.book }
-        ensures sound { B.Register.sound self.new.book }
         ensures answer { result ≡ striking (state_of B.Register.live B.Book.barred B.Book.free self.old) serial }
         ensures after { state_of B.Register.live B.Book.barred B.Book.free self.new ≡ striking_left (state_of B.Register.live B.Book.barred B.Book.free self.old) serial }
         ensures struck { StruckAt (state_of B.Register.live B.Book.barred B.Book.free self.old) serial result (state_of B.Register.live B.Book.barred B.Book.free self.new) }

@@ -23,7 +23,6 @@ impl<B: Book> Gate<B> {
         links: &mut [Link],
         forks: &mut [Fork],
     ) -> Result<u16, Denial>
-        requires { B.Register.sound self.now.book }
         ensures answer { result ≡ checking (state_of B.Register.live B.Book.barred B.Book.free self.now) (length facts.old) (length links.old) (length forks.old) file.now }
         ensures exactly { Exactly (stated (length facts.old) (length links.old) (length forks.old)) (given_at (state_of B.Register.live B.Book.barred B.Book.free self.now)) file.now result }
         ensures follows { Grounded (given_at (state_of B.Register.live B.Book.barred B.Book.free self.now)) result }

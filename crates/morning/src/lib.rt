@@ -3,7 +3,6 @@
 
 use book::entry::{BLANK, Entry, Standing};
 use book::filing::Book;
-use book::register::Register;
 use denials::denial::Denial;
 use gate::gate::Gate;
 use records::ledger::Ledger;
@@ -124,10 +123,7 @@ fn tell_done(rt: &HostRuntime, done: &str, answer: Result<(), Denial>) -> io::Re
 }
 
 // Names all rows of the morning.
-fn name_rows<B: Book>(rt: &HostRuntime, gate: &mut Gate<B>) -> anyhow::Result<()>
-    requires { B.Register.sound gate.old.book }
-    ensures sound { B.Register.sound gate.new.book }
-{
+fn name_rows<B: Book>(rt: &HostRuntime, gate: &mut Gate<B>) -> anyhow::Result<()> {
     println!(rt; "It names who takes part, the principals:")?;
     for row in &PRINCIPALS {
         tell_row(rt, row.words, gate.principal(row.form, row.x, row.y))?;
@@ -146,19 +142,13 @@ fn file<B: Book>(
     serial: u16,
     standing: u8,
     row: u16,
-) -> io::Result<()>
-    requires { B.Register.sound gate.old.book }
-    ensures sound { B.Register.sound gate.new.book }
-{
+) -> io::Result<()> {
     print!(rt; "  statement {row} under serial {serial}: ")?;
     tell_done(rt, "filed", gate.file(serial, standing, row))
 }
 
 // Strikes a serial and tells what came of it.
-fn strike<B: Book>(rt: &HostRuntime, gate: &mut Gate<B>, serial: u16) -> io::Result<()>
-    requires { B.Register.sound gate.old.book }
-    ensures sound { B.Register.sound gate.new.book }
-{
+fn strike<B: Book>(rt: &HostRuntime, gate: &mut Gate<B>, serial: u16) -> io::Result<()> {
     print!(rt; "  serial {serial}: ")?;
     tell_done(rt, "struck", gate.strike(serial))
 }
@@ -174,23 +164,16 @@ fn tell_entry(rt: &HostRuntime, entry: Entry) -> io::Result<()> {
 }
 
 // Tells what is live, from entry to entry in rising serial order.
-fn show_book<B: Book>(rt: &HostRuntime, gate: &Gate<B>) -> anyhow::Result<()>
-    requires { B.Register.sound gate.now.book }
-{
+fn show_book<B: Book>(rt: &HostRuntime, gate: &Gate<B>) -> anyhow::Result<()> {
     println!(rt; "The book now holds:")?;
-    let mut at = 0;
-    while let Some(entry) = gate.next_after(at) {
+    for entry in gate.entries() {
         tell_entry(rt, entry)?;
-        at = entry.serial;
     }
     Ok(())
 }
 
 // The rule and the two sayings are filed, a fourth finds no place, and one is struck to make room.
-fn keep_the_book<B: Book>(rt: &HostRuntime, gate: &mut Gate<B>) -> anyhow::Result<()>
-    requires { B.Register.sound gate.old.book }
-    ensures sound { B.Register.sound gate.new.book }
-{
+fn keep_the_book<B: Book>(rt: &HostRuntime, gate: &mut Gate<B>) -> anyhow::Result<()> {
     println!(rt; "The paint house files its rule, and shop and lab file what they say.")?;
     file(rt, gate, 1, 1, 4)?;
     file(rt, gate, 2, 2, 5)?;

@@ -1,6 +1,4 @@
 // Runs a job: each line that is no silent one gets its number and its answer.
-ghost use Rattle.console.specs.Desks.{ConsoleSound};
-
 use console::console::Console;
 use job::next_line;
 use std::fs;
@@ -17,10 +15,7 @@ fn read(rt: &HostRuntime, name: &str) -> anyhow::Result<Vec<u8>> {
 }
 
 // Does one line and prints its answer, if it has one.
-fn answer(rt: &HostRuntime, console: &mut Console, number: u64, line: &[u8]) -> anyhow::Result<()>
-    requires { ConsoleSound console.old }
-    ensures sound { ConsoleSound console.new }
-{
+fn answer(rt: &HostRuntime, console: &mut Console, number: u64, line: &[u8]) -> anyhow::Result<()> {
     if let Some(words) = console.line(line) {
         println!(rt; "{number}: {words}")?;
     }

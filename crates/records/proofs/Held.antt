@@ -1,10 +1,13 @@
 -- What rising records hold under a serial, and which comes next. Assumes nothing.
-use Rattle.std.proofs.Common.{◌≡◌, ℕ, zero, suc, ◌+◌, ◌<◌, ◌≤◌, List, get_or, Some, None, sym, refl, ap, ◌∙◌, ⊎_elim, arith}
-use Rattle.std.proofs.lemmas.Bool.{eq-eqb, ne_eqb, cases_eq, cases_order, cond-true, cond-false}
+use Rattle.std.proofs.Common.{◌≡◌, ℕ, zero, suc, ◌+◌, ◌<◌, ◌≤◌, List, length, get_or, Some, None, Option, Bor, sym, refl, ap, ◌∙◌, ⊎_elim, arith}
+use Rattle.std.specs.Option.{option_copied}
+use Rattle.std.specs.Slice.{IsItemAt}
+use Rattle.std.proofs.lemmas.Grind.{common_steps}
+use Rattle.std.proofs.lemmas.Bool.{eq-eqb, ne_eqb, cases_eq, cases_lt, cases_order, cond-true, cond-false}
 use Rattle.book.specs.declared.entry.Entry.{Entry}
 use Rattle.book.specs.Live.{blank, next_after}
-use Rattle.records.specs.Records.{serial_at, held, Rising, Kept, Placed}
-use Rattle.records.specs.Orderly.{held_none, kept_orderly}
+use Rattle.records.specs.Records.{serial_at, held, Rising, InUse, Placed}
+use Rattle.records.specs.Orderly.{held_none, in_use_orderly}
 use Rattle.book.proofs.Scan.{next_is}
 
 -- the serial is borne by record k, or by none
@@ -46,26 +49,36 @@ module _ (xs : List Entry) where
         | unborne no_one is ↦ absurd (no_one k lt at)
       ]
 
-module _ (xs : List Entry) (size n : ℕ) (kept : Kept xs size n) where
-  pub next_held :
-      (s at : ℕ) → Placed xs n (s + 1) at → at < n → Some (get_or xs at blank) ≡ next_after (held xs n) s
+module _ (xs : List Entry) (in_use : InUse xs) where
+  next_held :
+      (s at : ℕ) → Placed xs (length xs) (s + 1) at → at < length xs → Some (get_or xs at blank) ≡ next_after (held xs (length xs)) s
   next_held s at placed lt =
-      next_is (held xs n) (kept_orderly xs size n kept) s (Some (get_or xs at blank))
+      next_is (held xs (length xs)) (in_use_orderly xs in_use) s (Some (get_or xs at blank))
       (record {
         above = omega (arith, placed.onward at (omega arith) lt);
-        found = held_some xs n (serial_at xs at) at kept.rising lt refl;
+        found = held_some xs (length xs) (serial_at xs at) at in_use.rising lt refl;
         between = λ t lo hi.
-            held_none xs n t
+            held_none xs (length xs) t
             (λ k lk e.
             ⊎_elim
             (λ (same : k ≡ at). omega (arith, ap (serial_at xs) same))
             (⊎_elim
             (λ (below : k < at). omega (arith, placed.before k below))
-            (λ (above : at < k). omega (arith, kept.rising at k above lk)))
+            (λ (above : at < k). omega (arith, in_use.rising at k above lk)))
             (cases_order k at));
       })
 
-  pub next_none : (s at : ℕ) → Placed xs n (s + 1) at → n ≤ at → None ≡ next_after (held xs n) s
+  next_none : (s at : ℕ) → Placed xs (length xs) (s + 1) at → length xs ≤ at → None ≡ next_after (held xs (length xs)) s
   next_none s at placed le =
-      next_is (held xs n) (kept_orderly xs size n kept) s None
-      (λ t lo. held_none xs n t (λ k lk e. omega (arith, placed.before k (omega arith))))
+      next_is (held xs (length xs)) (in_use_orderly xs in_use) s None
+      (λ t lo. held_none xs (length xs) t (λ k lk e. omega (arith, placed.before k (omega arith))))
+
+  -- what is lent from that place, if it is one of theirs
+  pub next_found :
+      (s at : ℕ) → Placed xs (length xs) (s + 1) at → (r : Option (Bor Entry)) → IsItemAt xs at r →
+      option_copied r ≡ next_after (held xs (length xs)) s
+  next_found s at placed r item =
+      ⊎_elim
+      (λ (lt : at < length xs). let here : option_copied r ≡ Some (get_or xs at blank) = grind (arith, common_steps) in here ∙ next_held s at placed lt)
+      (λ (le : length xs ≤ at). let past : option_copied r ≡ None = grind (arith, common_steps) in past ∙ next_none s at placed le)
+      (cases_lt at (length xs))

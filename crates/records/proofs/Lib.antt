@@ -1,3 +1,4 @@
+pub mod Searches
 pub mod Held
 pub mod Shifts
 pub mod Calls

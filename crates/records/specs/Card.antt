@@ -3,8 +3,8 @@
 -- card_barred s            a card book bars the serials above 256
 -- live_count live n        how many of the serials 1 to n are live
 -- card_free xs             its free places: 256 less its live entries
--- CardSound xs             each of the 256 records is blank or bears the serial of its place
-use Rattle.std.specs.Prelude.{◌≡◌, ℕ, zero, suc, ◌+◌, ◌-◌, ◌<◌, Bool, cond, ◌⊎◌, List, length, is_some, Some, None, Option, ◌==◌, ◌≢◌, nat_lt, slice_index_or, refl}
+-- CardSound xs             each of the 256 records bears the serial of its place or is blank
+use Rattle.std.specs.Prelude.{◌≡◌, ℕ, zero, suc, ◌+◌, ◌-◌, ◌<◌, Bool, cond, List, length, is_some, Some, None, Option, ◌==◌, ◌≢◌, nat_lt, slice_index_or, refl}
 use Rattle.std.proofs.Common.{ap, ◌∙◌, ⊎_elim, arith}
 use Rattle.std.proofs.lemmas.List.{get_or_past}
 use Rattle.std.proofs.lemmas.Bool.{eq-eqb, ne_eqb, cases_eq, cond-true, cond-false}
@@ -31,7 +31,7 @@ card_free xs = 256 - live_count (card_live xs) 256
 
 pub record CardSound (xs : List Entry) : Type 0 where
   pub places : length xs ≡ 256
-  pub own : (k : ℕ) → k < 256 → (slice_index_or xs k blank ≡ blank) ⊎ (serial_at xs k ≡ suc k)
+  pub own : (k : ℕ) → k < 256 → (serial_at xs k ≢ suc k) → slice_index_or xs k blank ≡ blank
 
 module _ (xs : List Entry) where
   pub card_shown : (s : ℕ) → (s ≢ 0) → serial_at xs (s - 1) ≡ s → card_live xs s ≡ Some (slice_index_or xs (s - 1) blank)

@@ -14,12 +14,12 @@ pub const LAST_CARD: u16 = 256;
 #[derive(Clone, Copy)]
 pub struct CardBook {
     cards: [Entry; 256],
+    ghost sound: { CardSound cards },
 }
 
 impl CardBook {
     // A card book with every record blank.
     pub fn new() -> CardBook
-        ensures sound { CardSound result.cards }
         ensures empty { means (card_live result.cards) card_barred (card_free result.cards) ≡ empty_book card_barred 256 }
     {
         CardBook {
@@ -29,35 +29,19 @@ impl CardBook {
 }
 
 impl Register for CardBook {
-    ghost sound = { λ b. CardSound b.cards };
-
     ghost live = { λ b. card_live b.cards };
 
-    ghost orderly = { λ b. card_orderly b.cards };
+    ghost orderly = { λ b. card_orderly b.cards b.sound };
 
     fn lookup(&self, serial: u16) -> Option<Entry> {
-        if serial == 0 {
-            return None;
-        }
-        if serial > LAST_CARD {
-            return None;
-        }
-        let card = self.cards[serial as usize - 1];
-        if card.serial == serial {
-            Some(card)
-        } else {
-            None
-        }
+        let place = (serial as usize).checked_sub(1)?;
+        let card = *self.cards.get(place)?;
+        (card.serial == serial).then_some(card)
     }
 
     fn next_after(&self, serial: u16) -> Option<Entry> {
-        for k in serial as usize..256 {
-            let card = self.cards[k];
-            if card.serial != 0 {
-                return Some(card);
-            }
-        }
-        None
+        let mut later = self.cards.iter().skip(serial as usize);
+        later.find(|card| card.serial != 0).copied()
     }
 }
 
@@ -97,15 +81,13 @@ impl Book for CardBook {
     }
 
     fn strike(&mut self, serial: u16) -> Result<(), Denial> {
-        match self.lookup(serial) {
-            Some(_) => {
-                self.cards[serial as usize - 1] = BLANK;
-                Ok(())
-            }
-            None => Err(Denial {
+        if self.lookup(serial).is_none() {
+            return Err(Denial {
                 reason: Reason::NotLive,
                 place: serial as u64,
-            }),
+            });
         }
+        self.cards[serial as usize - 1] = BLANK;
+        Ok(())
     }
 }

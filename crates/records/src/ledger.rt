@@ -3,9 +3,8 @@ ghost use Rattle.std.specs.Prelude.{◌≡◌, false};
 ghost use Rattle.book.specs.Meaning.{means, empty_book};
 ghost use Rattle.records.specs.Ledger.{ledger_size, LedgerSound, ledger_live, ledger_free, ledger_orderly, BlankFront, SameBehind, behind_still, behind_onward};
 
-use crate::records::wipe;
 use crate::table::{look_up, next_up, put_in, take_out};
-use book::entry::Entry;
+use book::entry::{BLANK, Entry};
 use book::filing::Book;
 use book::register::Register;
 use denials::denial::Denial;
@@ -17,18 +16,18 @@ pub const LEDGER_SIZE: usize = 1024;
 pub struct Ledger<'a> {
     count: usize,
     records: &'a mut [Entry],
+    ghost sound: { LedgerSound records.now count },
 }
 
 impl<'a> Ledger<'a> {
     // An empty ledger. It blanks the records that it uses, whatever they held, and leaves those behind them alone.
     pub fn new(records: &'a mut [Entry]) -> Ledger<'a>
-        ensures sound { LedgerSound result.records.now result.count }
         ensures empty { means (ledger_live result.records.now result.count) (λ s. false) (ledger_free result.records.now result.count) ≡ empty_book (λ s. false) (ledger_size records.old) }
         ensures blank { BlankFront result.records.now }
         ensures behind { SameBehind records.entry result.records }
     {
         let size = records.len().min(LEDGER_SIZE);
-        wipe(records, size);
+        records[..size].fill(BLANK);
         Ledger { count: 0, records }
     }
 
@@ -41,18 +40,16 @@ impl<'a> Ledger<'a> {
 }
 
 impl<'a> Register for Ledger<'a> {
-    ghost sound = { λ b. LedgerSound b.records.now b.count };
-
     ghost live = { λ b. ledger_live b.records.now b.count };
 
-    ghost orderly = { λ b. ledger_orderly b.records.now b.count };
+    ghost orderly = { λ b. ledger_orderly b.records.now b.count b.sound };
 
     fn lookup(&self, serial: u16) -> Option<Entry> {
-        look_up(self.records, self.count, self.size(), serial)
+        look_up(&self.records[..self.count], serial)
     }
 
     fn next_after(&self, serial: u16) -> Option<Entry> {
-        next_up(self.records, self.count, self.size(), serial)
+        next_up(&self.records[..self.count], serial)
     }
 }
 
@@ -69,17 +66,11 @@ impl<'a> Book for Ledger<'a> {
 
     fn file(&mut self, entry: Entry) -> Result<(), Denial> {
         let size = self.size();
-        let mut count = self.count;
-        let answer = put_in(self.records, &mut count, size, entry);
-        self.count = count;
-        answer
+        put_in(self.records, &mut self.count, size, entry)
     }
 
     fn strike(&mut self, serial: u16) -> Result<(), Denial> {
         let size = self.size();
-        let mut count = self.count;
-        let answer = take_out(self.records, &mut count, size, serial);
-        self.count = count;
-        answer
+        take_out(self.records, &mut self.count, size, serial)
     }
 }

@@ -17,12 +17,12 @@ pub struct OwnedLedger {
     size: usize,
     count: usize,
     records: [Entry; 1024],
+    ghost sound: { OwnedSound records size count },
 }
 
 impl OwnedLedger {
     // An empty ledger of `size` records, or of 1,024 if that is fewer.
     pub fn new(size: usize) -> OwnedLedger
-        ensures sound { OwnedSound result.records result.size result.count }
         ensures empty { means (held result.records result.count) (λ s. false) (result.size - result.count) ≡ empty_book (λ s. false) (min size 1024) }
     {
         OwnedLedger {
@@ -34,18 +34,16 @@ impl OwnedLedger {
 }
 
 impl Register for OwnedLedger {
-    ghost sound = { λ b. OwnedSound b.records b.size b.count };
-
     ghost live = { λ b. held b.records b.count };
 
-    ghost orderly = { λ b ok. kept_orderly b.records b.size b.count ok.kept };
+    ghost orderly = { λ b. kept_orderly b.records b.size b.count b.sound.kept };
 
     fn lookup(&self, serial: u16) -> Option<Entry> {
-        look_up(&self.records, self.count, self.size, serial)
+        look_up(&self.records[..self.count], serial)
     }
 
     fn next_after(&self, serial: u16) -> Option<Entry> {
-        next_up(&self.records, self.count, self.size, serial)
+        next_up(&self.records[..self.count], serial)
     }
 }
 
@@ -61,18 +59,10 @@ impl Book for OwnedLedger {
     ghost onward = { λ a b c. owned_onward a.records a.size b.records b.size c.records c.size };
 
     fn file(&mut self, entry: Entry) -> Result<(), Denial> {
-        let size = self.size;
-        let mut count = self.count;
-        let answer = put_in(&mut self.records, &mut count, size, entry);
-        self.count = count;
-        answer
+        put_in(&mut self.records, &mut self.count, self.size, entry)
     }
 
     fn strike(&mut self, serial: u16) -> Result<(), Denial> {
-        let size = self.size;
-        let mut count = self.count;
-        let answer = take_out(&mut self.records, &mut count, size, serial);
-        self.count = count;
-        answer
+        take_out(&mut self.records, &mut self.count, self.size, serial)
     }
 }

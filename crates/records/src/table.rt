@@ -1,31 +1,31 @@
 // The four calls of a book on records in rising order, whoever holds the records.
-ghost use Rattle.std.specs.Prelude.{◌≡◌, ℕ, ◌≤◌, slice_index_or};
+ghost use Rattle.std.specs.Prelude.{◌≡◌, ℕ, ◌≤◌, length, slice_index_or};
 ghost use Rattle.book.specs.Live.{blank, next_after};
 ghost use Rattle.book.specs.Meaning.{file_answer, file_after, strike_answer, strike_after};
-ghost use Rattle.records.specs.Records.{held, Kept, kept_means};
+ghost use Rattle.records.specs.Records.{held, Kept, InUse, kept_means};
 
-use crate::records::{find, place, shift_in, shift_out};
+use crate::records::{find, shift_in, shift_out};
 use book::entry::Entry;
 use denials::denial::{Denial, Reason};
 
-// The entry of a serial among the first `count` records.
-pub(crate) fn look_up(records: &[Entry], count: usize, size: usize, serial: u16) -> Option<Entry>
-    requires { Kept records.now size count }
-    ensures { result ≡ held records.now count serial }
+// The entry of a serial among the records in use.
+pub(crate) fn look_up(in_use: &[Entry], serial: u16) -> Option<Entry>
+    requires { InUse in_use.now }
+    ensures { result ≡ held in_use.now (length in_use.now) serial }
 {
-    match find(records, count, serial) {
-        Ok(at) => Some(records[at]),
+    match find(in_use, serial) {
+        Ok(at) => Some(in_use[at]),
         Err(_) => None,
     }
 }
 
 // The entry with the lowest serial above the given one.
-pub(crate) fn next_up(records: &[Entry], count: usize, size: usize, serial: u16) -> Option<Entry>
-    requires { Kept records.now size count }
-    ensures { result ≡ next_after (held records.now count) serial }
+pub(crate) fn next_up(in_use: &[Entry], serial: u16) -> Option<Entry>
+    requires { InUse in_use.now }
+    ensures { result ≡ next_after (held in_use.now (length in_use.now)) serial }
 {
-    let at = place(records, count, serial as u32 + 1);
-    if at < count { Some(records[at]) } else { None }
+    let at = in_use.partition_point(|record| record.serial <= serial);
+    in_use.get(at).copied()
 }
 
 // Files an entry in the first `size` records, of which `count` are in use.
@@ -47,7 +47,7 @@ pub(crate) fn put_in(
             place: 0,
         });
     }
-    match find(records, *count, entry.serial) {
+    match find(&records[..*count], entry.serial) {
         Ok(_) => Err(Denial {
             reason: Reason::SerialLive,
             place: entry.serial as u64,
@@ -79,7 +79,7 @@ pub(crate) fn take_out(
     ensures after { kept_means records.new size count.new ≡ strike_after (kept_means records.old size count.old) serial }
     ensures behind { (k : ℕ) → size ≤ k → slice_index_or records.new k blank ≡ slice_index_or records.old k blank }
 {
-    match find(records, *count, serial) {
+    match find(&records[..*count], serial) {
         Ok(at) => {
             shift_out(records, *count, at);
             *count -= 1;

@@ -26,7 +26,6 @@ pub fn step<R: Register>(
     forks: &mut Trail<Fork>,
     worlds: &mut u16,
 ) -> Result<bool, Denial>
-    requires book { R.Register.sound book.now }
     requires sound { SoundTables facts.old links.old forks.old }
     requires fit { ForksFit (limits_of facts.old links.old forks.old) (forks_of forks.old) }
     requires few { worlds.old ≤ 1024 }

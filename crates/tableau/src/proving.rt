@@ -46,7 +46,6 @@ fn walk_from<R: Register>(
     links: &mut Trail<Link>,
     forks: &mut Trail<Fork>,
 ) -> Result<u16, Denial>
-    requires book { R.Register.sound book.now }
     requires long { length file.now ≡ 10 + 7 * lines }
     requires sound { SoundTables facts.old links.old forks.old }
     requires fresh { Fresh facts.old links.old forks.old }
@@ -80,7 +79,6 @@ fn walk_file<R: Register>(
     links: &mut Trail<Link>,
     forks: &mut Trail<Fork>,
 ) -> Result<u16, Denial>
-    requires book { R.Register.sound book.now }
     requires sound { SoundTables facts.old links.old forks.old }
     requires fresh { Fresh facts.old links.old forks.old }
     ensures sound { SoundTables facts.new links.new forks.new }
@@ -102,7 +100,6 @@ pub fn walk<R: Register>(
     links: &mut [Link],
     forks: &mut [Fork],
 ) -> Result<u16, Denial>
-    requires { R.Register.sound book.now }
     ensures answer { result ≡ walked (stated (length facts.old) (length links.old) (length forks.old)) (given (rows_of names.now) (R.Register.live book.now)) file.now }
     ensures exactly { Exactly (stated (length facts.old) (length links.old) (length forks.old)) (given (rows_of names.now) (R.Register.live book.now)) file.now result }
     ensures follows { Grounded (given (rows_of names.now) (R.Register.live book.now)) result }

@@ -40,7 +40,6 @@ pub(crate) fn walk_lines<R: Register>(
     links: &mut Trail<Link>,
     forks: &mut Trail<Fork>,
 ) -> Result<(), Denial>
-    requires book { R.Register.sound book.now }
     requires long { length file.now ≡ 10 + 7 * count }
     requires sound { SoundTables facts.old links.old forks.old }
     requires unforked { entries_of forks.old ≡ [] }

@@ -8,5 +8,4 @@ pub returns-in-Ledger : goal.returns-in-Ledger
 returns-in-Ledger c =
     record {
       means = c.new.ensures.empty ∙ ap (λ (g : Ground). floor_means (floor_of g)) (sym c.in-Ledger.is);
-      sound = c.new.ensures.sound;
     }

@@ -1,10 +1,6 @@
 use Rattle.std.proofs.Common.{length}
-use Rattle.console.specs.Desks.{ConsoleSound}
 use Rattle.job.specs.Lines.{lines}
 use Rattle.pourgate.proofs.jobs.run.Given as goal
-
-abbrev pub invariant-loop-line : goal.invariant-loop-line
-invariant-loop-line l = ConsoleSound l.console
 
 abbrev pub decreases-loop-line : goal.decreases-loop-line
 decreases-loop-line l = length (lines l.rest)

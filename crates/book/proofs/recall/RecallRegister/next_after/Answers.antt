@@ -1,35 +1,20 @@
-use Rattle.std.proofs.Common.{sym}
+use Rattle.std.proofs.Common.{not, rules, tests, sym, ◌∙◌}
+use Rattle.std.proofs.lemmas.Iterator.Consumers.{YieldsList-from_first}
+use Rattle.std.proofs.lemmas.Iterator.Adapters.{option_map_id}
+use Rattle.std.proofs.lemmas.Iterator.Search.{find_from_yields_List}
+use Rattle.book.specs.Going.{entries_left}
+use Rattle.book.specs.Listings.{live_above}
+use Rattle.book.specs.Serials.{on}
 use Rattle.book.specs.Sheet.{sheet_list}
-use Rattle.book.proofs.Layers.{pass_one, pass_found, pass_none, nearer}
+use Rattle.book.proofs.Layers.{shown_next}
 use Rattle.book.proofs.recall.RecallRegister.next_after.Goals as goal
 
-pub returns-then-not-contains : goal.returns-then-not-contains
-returns-then-not-contains g c =
-    let below = c.args.self.now.below in
-    record {
-      answer = pass_found (sheet_list c.args.self.now.sheet) (g.B.Register.live below)
-          (g.B.Register.orderly below c.requires.1) c.args.serial c.loop-entry.at c.loop-entry.invariant
-          c.in-Some.entry c.in-Some.ensures.answer (sym c.if-not-contains.ensures.answer);
-    }
-
-pub loop-entry-smaller : goal.loop-entry-smaller
-loop-entry-smaller g c =
-    let below = c.args.self.now.below in
-    nearer (g.B.Register.live below) (g.B.Register.orderly below c.requires.1) c.loop-entry.at c.in-Some.entry
-    c.in-Some.ensures.answer
-
-pub loop-entry-preserved : goal.loop-entry-preserved
-loop-entry-preserved g c =
-    let below = c.args.self.now.below in
-    pass_one (sheet_list c.args.self.now.sheet) (g.B.Register.live below) (g.B.Register.orderly below c.requires.1)
-    c.args.serial c.loop-entry.at c.loop-entry.invariant c.in-Some.entry c.in-Some.ensures.answer
-    (sym c.if-not-contains.ensures.answer)
-
+-- the closure tests whether an entry is shown
 pub returns : goal.returns
 returns g c =
-    let below = c.args.self.now.below in
-    record {
-      answer = pass_none (sheet_list c.args.self.now.sheet) (g.B.Register.live below)
-          (g.B.Register.orderly below c.requires.1) c.args.serial c.loop-entry.at c.loop-entry.invariant
-          c.in_default.ensures.answer;
-    }
+    let book = c.args.self.now in
+    let live = g.B.Register.live book.below in
+    let xs = sheet_list book.sheet in
+    let chain = YieldsList-from_first (λ x. x) (entries_left g.B.Register.live) (live_above live c.args.serial) c.new-entries.ensures.left in
+    let found = find_from_yields_List (λ e. not (on xs e.serial)) c.find.new.self _ c.find.result c.find.ensures.ran chain (λ x b q k. search (rules, tests)) in
+    record { answer = sym (option_map_id c.find.result) ∙ found ∙ shown_next xs live (g.met.B.Register.orderly book.below) c.args.serial }

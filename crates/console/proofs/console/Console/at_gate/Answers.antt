@@ -7,7 +7,7 @@ use Rattle.console.specs.Replies.{unreadable}
 use Rattle.console.specs.Deeds.{reply}
 use Rattle.console.specs.Desks.{desk, desk_of, AtState}
 use Rattle.console.specs.Piles.{pile_state}
-use Rattle.console.proofs.DeskLaws.{sound_set, nth_map_some, nth_read_at}
+use Rattle.console.proofs.DeskLaws.{nth_map_some, nth_read_at}
 use Rattle.console.proofs.console.Console.at_gate.Goals as goal
 
 pub returns-then-current-len : goal.returns-then-current-len
@@ -16,14 +16,8 @@ returns-then-current-len c =
     let gates = vec_items c.args.self.now.gates in
     let none = slice_get_past (map pile_state gates) c.args.self.now.current (omega (arith, c.len.ensures, c.args.self.now.gates.ok.0, length-map gates pile_state)) in
     record {
-      sound = c.requires;
       did = subst (λ (o : Option State). AtState d c.args.deed o (unreadable NoGate) d) (sym none) (refl, refl);
     }
-
-pub act-answer-requires : goal.act-answer-requires
-act-answer-requires c =
-    let gates = vec_items c.args.self.now.gates in
-    c.requires c.args.self.now.current c.index.result.now (nth_read_at gates c.args.self.now.current c.index.result.now (omega (arith, c.len.ensures, c.args.self.now.gates.ok.0)) c.index.ensures)
 
 pub returns : goal.returns
 returns c =
@@ -33,7 +27,6 @@ returns c =
     let after = c.act-answer.new.gate in
     let found = nth_map_some pile_state gates self.current gate (nth_read_at gates self.current gate (omega (arith, c.len.ensures, self.gates.ok.0)) c.index.ensures) in
     record {
-      sound = sound_set gates self.current after c.requires c.act-answer.ensures.sound;
       did = subst (λ (o : Option State). AtState (desk_of self) c.args.deed o (reply c.act-answer.result) (desk (map pile_state (set gates self.current after)) self.current)) (sym found)
           (c.act-answer.ensures.answer, ap (λ gs. desk gs self.current) (map-set pile_state gates self.current after ∙ ap (set (map pile_state gates) self.current) c.act-answer.ensures.after));
     }

@@ -18,7 +18,6 @@ returns-then-is_some c =
     let n = c.args.opening.gate in
     let found = place_on_desk n gates ∙ ap (place_of n) (sym c.deref.ensures.value) ∙ sym c.place_of.ensures.answer in
     record {
-      sound = c.requires;
       did = opens_already (desk_of c.args.self.now) n _ _ (desk_of c.args.self.now) (ap is_some found ∙ sym c.if-is_some.ensures) (refl, refl);
     }
 
@@ -28,7 +27,6 @@ returns-then-len-ge-GATES c =
     let n = c.args.opening.gate in
     let found = place_on_desk n gates ∙ ap (place_of n) (sym c.deref.ensures.value) ∙ sym c.place_of.ensures.answer in
     record {
-      sound = c.requires;
       did = opens_ninth (desk_of c.args.self.now) n _ _ (desk_of c.args.self.now) (ap is_some found ∙ sym c.if-is_some.ensures) (omega (arith, c.len.ensures, c.args.self.now.gates.ok.0, length-map gates pile_state)) (refl, refl);
     }
 
@@ -43,7 +41,6 @@ returns-in-Ok c =
     let found = place_on_desk n gates ∙ ap (place_of n) (sym c.deref.ensures.value) ∙ sym c.place_of.ensures.answer in
     let room : length (map pile_state gates) < 8 = omega (arith, c.if-len-ge-GATES.false, c.len.ensures, c.args.self.now.gates.ok.0, length-map gates pile_state) in
     record {
-      sound = c.admit.ensures.sound;
       did = opens_makes d n made (reply c.admit.result) e (ap is_some found ∙ sym c.if-is_some.ensures) room
           (subst (λ (m : Result State Denial). Makes d m (reply c.admit.result) e) (sym c.in-Ok.ensures.answer) c.admit.ensures.did);
     }
@@ -58,7 +55,6 @@ returns-in-Err c =
     let found = place_on_desk n gates ∙ ap (place_of n) (sym c.deref.ensures.value) ∙ sym c.place_of.ensures.answer in
     let room : length (map pile_state gates) < 8 = omega (arith, c.if-len-ge-GATES.false, c.len.ensures, c.args.self.now.gates.ok.0, length-map gates pile_state) in
     record {
-      sound = c.requires;
       did = opens_makes d n made (refused c.in-Err.denial) d (ap is_some found ∙ sym c.if-is_some.ensures) room
           (subst (λ (m : Result State Denial). Makes d m (refused c.in-Err.denial) d) (sym c.in-Err.ensures.answer) (refl, refl));
     }

@@ -8,7 +8,6 @@ returns-in-Some c =
     let gates = vec_items c.args.self.now.gates in
     let found = place_on_desk c.args.number gates ∙ ap (place_of c.args.number) (sym c.deref.ensures.value) ∙ sym c.in-Some.ensures.answer in
     record {
-      sound = c.requires;
       answer = ap (turn_to c.args.number) (sym found);
       after = ap (turned_to (desk_of c.args.self.now)) (sym found);
     }
@@ -18,7 +17,6 @@ returns-in-None c =
     let gates = vec_items c.args.self.now.gates in
     let found = place_on_desk c.args.number gates ∙ ap (place_of c.args.number) (sym c.deref.ensures.value) ∙ sym c.in-None.ensures.answer in
     record {
-      sound = c.requires;
       answer = ap (turn_to c.args.number) (sym found);
       after = ap (turned_to (desk_of c.args.self.now)) (sym found);
     }

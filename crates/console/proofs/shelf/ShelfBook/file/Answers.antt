@@ -7,7 +7,6 @@ use Rattle.console.proofs.shelf.ShelfBook.file.Goals as goal
 pub returns-in-Ledger : goal.returns-in-Ledger
 returns-in-Ledger c =
     record {
-      sound = c.file.ensures.sound;
       answer = c.file.ensures.answer ∙ ap (λ (b : Shelf). file_answer (means (shelf_live b) (shelf_barred b) (shelf_free b)) c.args.entry) (sym c.in-Ledger.is);
       after = c.file.ensures.after ∙ ap (λ (b : Shelf). file_after (means (shelf_live b) (shelf_barred b) (shelf_free b)) c.args.entry) (sym c.in-Ledger.is);
       behind = tt;

@@ -7,7 +7,6 @@ use Rattle.console.proofs.shelf.ShelfBook.strike.Goals as goal
 pub returns-in-Ledger : goal.returns-in-Ledger
 returns-in-Ledger c =
     record {
-      sound = c.strike.ensures.sound;
       answer = c.strike.ensures.answer ∙ ap (λ (b : Shelf). strike_answer (means (shelf_live b) (shelf_barred b) (shelf_free b)) c.args.serial) (sym c.in-Ledger.is);
       after = c.strike.ensures.after ∙ ap (λ (b : Shelf). strike_after (means (shelf_live b) (shelf_barred b) (shelf_free b)) c.args.serial) (sym c.in-Ledger.is);
       behind = tt;

@@ -3,13 +3,7 @@ use Rattle.gate.specs.State.{with_book, state_of}
 use Rattle.gate.proofs.AtGate.{striking_strikes}
 use Rattle.gate.proofs.gate.Gate.strike.Goals as goal
 
-pub returns : goal.returns
-returns g c =
+pub returns-clause-struck : goal.returns-clause-struck
+returns-clause-struck g c =
     let before = state_of g.B.Register.live g.B.Book.barred g.B.Book.free c.args.self.now in
-    let after = ap (with_book before) c.strike.ensures.after in
-    record {
-      sound = c.strike.ensures.sound;
-      answer = c.strike.ensures.answer;
-      after = after;
-      struck = striking_strikes before c.args.serial _ _ c.strike.ensures.answer after;
-    }
+    striking_strikes before c.args.serial _ _ c.strike.ensures.answer (ap (with_book before) c.strike.ensures.after)

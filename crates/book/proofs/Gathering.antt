@@ -4,7 +4,7 @@ use Rattle.std.proofs.lemmas.Bool.{cases_lt}
 use Rattle.book.specs.declared.entry.Entry.{Entry}
 use Rattle.book.specs.Live.{Orderly, Next, Follows, next_after}
 use Rattle.book.proofs.Scan.{scan_next}
-use Rattle.gate.specs.Listings.{gathered, before}
+use Rattle.book.specs.Listings.{gathered, before}
 
 module _ (live : ℕ → Option Entry) where
   -- where nothing is live for a while

@@ -1,0 +1,8 @@
+use Rattle.std.proofs.Common.{◌≡◌, subst}
+use Rattle.records.proofs.Searches.{held_in_use}
+use Rattle.records.proofs.owned.OwnedLedgerRegister.lookup.Goals as goal
+
+pub returns : goal.returns
+returns c =
+    let book = c.args.self.now in
+    record { answer = subst (λ live. c.look_up.result ≡ live c.args.serial) (held_in_use book.records book.size book.count book.sound.kept) c.look_up.ensures }
