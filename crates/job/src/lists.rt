@@ -19,13 +19,9 @@ pub struct Holding {
 pub fn next_serial(text: &[u8]) -> Option<(u16, &[u8])>
     ensures { MatchOption result (listed (words text.now) ≡ []) (λ p. listed (words text.now) ≡ p.0 ∷ listed (words p.1.now)) }
 {
-    match next_word(text) {
-        None => None,
-        Some((first, after)) => match number(first, SMALL) {
-            None => None,
-            Some(serial) => Some((serial as u16, after)),
-        },
-    }
+    let (first, after) = next_word(text)?;
+    let serial = number(first, SMALL)?;
+    Some((serial as u16, after))
 }
 
 // The entry that a word is: three numbers parted by colons, the middle one 1 or 2.
@@ -35,15 +31,9 @@ pub(crate) fn read_entry(text: &[u8]) -> Option<Holding>
 {
     let (first, after) = cut(text, b':');
     let (second, third) = cut(after, b':');
-    let Some(serial) = number(first, SMALL) else {
-        return None;
-    };
-    let Some(standing) = number(second, STANDING) else {
-        return None;
-    };
-    let Some(row) = number(third, SMALL) else {
-        return None;
-    };
+    let serial = number(first, SMALL)?;
+    let standing = number(second, STANDING)?;
+    let row = number(third, SMALL)?;
     if standing == 0 {
         return None;
     }
@@ -59,11 +49,6 @@ pub fn next_entry(text: &[u8]) -> Option<(Holding, &[u8])>
     ensures answer { MatchOption result (held_in (words text.now) ≡ []) (λ p. held_in (words text.now) ≡ held p.0.serial p.0.standing p.0.row ∷ held_in (words p.1.now)) }
     ensures standing { IfSome result (λ p. (1 ≤ p.0.standing) × (p.0.standing ≤ 2)) }
 {
-    match next_word(text) {
-        None => None,
-        Some((first, after)) => match read_entry(first) {
-            None => None,
-            Some(holding) => Some((holding, after)),
-        },
-    }
+    let (first, after) = next_word(text)?;
+    Some((read_entry(first)?, after))
 }

@@ -11,9 +11,9 @@ use crate::command::{Command, Reading};
 use crate::keyword::{Keyword, keyword_of};
 use crate::limits::{CODE, GATE, SMALL};
 use crate::opening::read_opening;
-use crate::operands::{one_number, three_numbers};
+use crate::operands::{one_number, only, three_numbers};
 use crate::unreadable::Unreadable;
-use crate::words::{next_word, word_of};
+use crate::words::next_word;
 
 // The command `at` with the gate number behind it.
 fn read_at(rest: &[u8]) -> Reading<'_>
@@ -81,10 +81,9 @@ fn read_strike(rest: &[u8]) -> Reading<'_>
 fn read_book(rest: &[u8]) -> Reading<'_>
     ensures { heard result ≡ answered (closed lists (words rest.now)) }
 {
-    if word_of(rest).is_empty() {
-        Reading::Command(Command::Book)
-    } else {
-        Reading::Unreadable(Unreadable::ExtraWord)
+    match only(Command::Book, rest) {
+        Err(why) => Reading::Unreadable(why),
+        Ok(command) => Reading::Command(command),
     }
 }
 
