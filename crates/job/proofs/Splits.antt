@@ -53,12 +53,11 @@ pub keep_filled : (w : List ℕ) (ws : List (List ℕ)) → 0 < length w → kee
 keep_filled [] ws h = absurd (omega arith)
 keep_filled (x ∷ xs) ws h = refl
 
--- a line whose first word is empty has no word
-pub words_none : (l : List ℕ) → word l ≡ [] → words l ≡ []
-words_none [] h = refl
-words_none (x ∷ xs) none =
+first_none : (l : List ℕ) → word l ≡ [] → words l ≡ []
+first_none [] h = refl
+first_none (x ∷ xs) none =
     cond_both (eqb x 32) (trimmed xs) (x ∷ xs) (λ l. front 32 l ≡ [] → words (x ∷ xs) ≡ [])
-    (λ e h. ap filled (cond-true _ _ _ e) ∙ words_none xs h)
+    (λ e h. ap filled (cond-true _ _ _ e) ∙ first_none xs h)
     (λ e h. let one : x ∷ front 32 xs ≡ [] = sym (cond-false (eqb x 32) [] (x ∷ front 32 xs) e) ∙ h in cc)
     none
 
@@ -68,8 +67,8 @@ word_some l w r e f h =
     let P : List ℕ → List ℕ → Type 0 = λ v t. words l ≡ keep v (words t) in
     subst (λ t. P w t) (sym f) (subst (λ v. P v (rest l)) (sym e) (words_first l)) ∙ keep_filled w (words r) h
 
-pub word_none : (l w : List ℕ) → w ≡ word l → length w ≡ 0 → word l ≡ []
-word_none l w e h = sym e ∙ nil_from_length w h
+pub words_none : (l w : List ℕ) → w ≡ word l → length w ≡ 0 → words l ≡ []
+words_none l w e h = first_none l (sym e ∙ nil_from_length w h)
 
 joined_onto : (x : ℕ) (ps : List (List ℕ)) → flat_map (λ w. w) (onto x ps) ≡ x ∷ flat_map (λ w. w) ps
 joined_onto x [] = refl

@@ -11,9 +11,9 @@ use crate::lists::read_entry;
 use crate::numbers::number;
 use crate::operands::first_number;
 use crate::unreadable::Unreadable;
-use crate::words::next_word;
+use crate::words::{Words, next_word};
 
-// What follows the serials of a layer and the word `over` behind them.
+// What follows the serials of a layer and the word `over` behind them. What stands behind `over` is wanted, so no `for` over the words serves.
 fn past_over(text: &[u8]) -> Result<&[u8], Unreadable>
     ensures { MatchResult result (λ after. behind_over (words text.now) ≡ Ok (words after.now)) (λ e. behind_over (words text.now) ≡ Err e) }
 {
@@ -33,7 +33,11 @@ fn behind_recall(text: &[u8]) -> Option<&[u8]>
     ensures { MatchOption result (layer (words text.now) ≡ Ok None) (λ after. layer (words text.now) ≡ recalling (listed (words after.now)) (behind_over (words after.now))) }
 {
     let (word, after) = next_word(text)?;
-    if word == b"recall".as_slice() { Some(after) } else { None }
+    if word == b"recall".as_slice() {
+        Some(after)
+    } else {
+        None
+    }
 }
 
 // The layers that the text begins with, two at most, and what follows them.
@@ -56,28 +60,21 @@ fn read_ground(text: &[u8]) -> Result<(Ground, &[u8]), Unreadable>
     ensures { MatchResult result (λ p. floor (words text.now) ≡ Ok (part (floor_of p.0) (words p.1.now))) (λ e. floor (words text.now) ≡ Err e) }
 {
     let (word, after) = next_word(text).ok_or(Unreadable::MissingWord)?;
-    if word == b"card".as_slice() {
-        return Ok((Ground::Card, after));
+    match word {
+        b"card" => Ok((Ground::Card, after)),
+        b"ledger" => {
+            let (records, rest) = first_number(after, RECORDS)?;
+            Ok((Ground::Ledger(records), rest))
+        }
+        _ => Err(Unreadable::BadBook),
     }
-    if word != b"ledger".as_slice() {
-        return Err(Unreadable::BadBook);
-    }
-    let (records, rest) = first_number(after, RECORDS)?;
-    Ok((Ground::Ledger(records), rest))
 }
 
 // Whether every word of the text is an entry.
 fn all_entries(text: &[u8]) -> bool
     ensures { result ≡ all_held (words text.now) }
 {
-    let mut rest = text;
-    while let Some((word, after)) = next_word(rest) {
-        if read_entry(word).is_none() {
-            return false;
-        }
-        rest = after;
-    }
-    true
+    Words(text).all(|word| read_entry(word).is_some())
 }
 
 // The text of the entries behind `with`, a text without words where nothing is left.

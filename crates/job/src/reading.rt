@@ -104,6 +104,7 @@ fn read_words<'a>(first: &[u8], rest: &'a [u8]) -> Reading<'a>
 }
 
 // What the line is read as. The line stands without its newline.
+#[tactic(auto, using(crate::proofs::Exactness::exactly))]
 pub fn read_line(line: &[u8]) -> Reading<'_>
     ensures answer { heard result ≡ reading line.now }
     ensures exactly { Exactly line.now (heard result) }

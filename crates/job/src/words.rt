@@ -25,6 +25,7 @@ fn trim(text: &[u8]) -> &[u8]
 }
 
 // The first word of the line and what follows it, or nothing where the line has no word.
+#[tactic(auto, using(crate::proofs::Splits::words_none, crate::proofs::Splits::word_some, crate::proofs::Splits::words_whole, crate::proofs::Splits::words_proper))]
 pub(crate) fn next_word(line: &[u8]) -> Option<(&[u8], &[u8])>
     ensures first { MatchOption result (words line.now ≡ []) (λ p. words line.now ≡ p.0.now ∷ words p.1.now) }
     ensures parts { MatchOption result (word line.now ≡ []) (λ p. (p.0.now ≡ word line.now) × (p.1.now ≡ rest line.now)) }
@@ -36,5 +37,26 @@ pub(crate) fn next_word(line: &[u8]) -> Option<(&[u8], &[u8])>
         None
     } else {
         Some((first, after))
+    }
+}
+
+// The words of a line, in order.
+#[derive(Clone, Copy)]
+pub(crate) struct Words<'a>(pub(crate) &'a [u8]);
+
+impl<'a> Iterator for Words<'a> {
+    ghost use Rattle.std.specs.Iterator.{YieldsFirstRef, item_count};
+    ghost use Rattle.job.specs.Words.{words};
+
+    type Item = &'a [u8];
+
+    ghost next_gives = { YieldsFirstRef (λ s. words s.0.now) };
+
+    ghost remaining = { item_count (λ s. words s.0.now) };
+
+    fn next(&mut self) -> Option<&'a [u8]> {
+        let (word, after) = next_word(self.0)?;
+        self.0 = after;
+        Some(word)
     }
 }

@@ -1,4 +1,4 @@
-use Rattle.std.proofs.Common.{◌≡◌, codes, sym, ap, arith}
+use Rattle.std.proofs.Common.{codes, sym, ap, arith}
 use Rattle.std.proofs.lemmas.Slice.Eq.{text_from_reads}
 use Rattle.job.specs.Keywords.{keyword}
 use Rattle.job.proofs.keyword.keyword_of.Goals as goal
