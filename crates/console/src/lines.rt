@@ -13,7 +13,7 @@ use crate::console::Console;
 use crate::deed::{Deed, act};
 use crate::opening::{Pile, open_gate};
 use gate::gate::Gate;
-use job::{Command, Opening, Reading, read_line};
+use job::{Command, Opening, read_line};
 use std::alloc::Global;
 
 // No more gates than this are open in one job.
@@ -143,10 +143,9 @@ impl Console {
         ensures sound { ConsoleSound self.new }
         ensures heeded { Heeded (desk_of self.old) (reading line.now) (answered_as result) (desk_of self.new) }
     {
-        match read_line(line) {
-            Reading::Silent => None,
-            Reading::Unreadable(why) => Some(Answer::Unreadable(Fault::Line(why))),
-            Reading::Command(command) => Some(self.obey(command)),
+        match read_line(line)? {
+            Ok(command) => Some(self.obey(command)),
+            Err(why) => Some(Answer::Unreadable(Fault::Line(why))),
         }
     }
 }

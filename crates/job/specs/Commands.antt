@@ -5,12 +5,11 @@
 -- saying k ws          the command of keyword k with the words ws
 -- spoken ws            what the words ws are read as
 -- reading line         what the line is read as
--- said c, heard r      the value of a `Command`, of a `Reading`
+-- said c               the value of a `Command`
+-- meant r, heard o     the value of a command that was read, and of what `read_line` gives
 use Rattle.std.specs.Prelude.{ℕ, cond, List, [], ◌∷◌, Some, None, Ok, Err, Option, Result, ◌==◌}
 use Rattle.job.specs.declared.command.Command.{Command}
 use Rattle.job.specs.declared.command.Command.TheVariants as commands
-use Rattle.job.specs.declared.command.Reading.{Reading}
-use Rattle.job.specs.declared.command.Reading.TheVariants as readings
 use Rattle.job.specs.declared.keyword.Keyword.{Keyword}
 use Rattle.job.specs.declared.keyword.Keyword.TheVariants.{Open, At, Principal, Statement, File, Strike, Book}
 use Rattle.job.specs.declared.unreadable.Unreadable.{Unreadable}
@@ -85,7 +84,10 @@ said (commands.Strike s) = strikes s
 said commands.Book = lists
 said (commands.Open o) = opens o.gate (sheets o.layers) (floor_of o.ground) (held_in (words o.entries.now))
 
-abbrev pub heard : Reading → Heard
-heard readings.Silent = silent
-heard (readings.Unreadable e) = unreadable e
-heard (readings.Command c) = command (said c)
+abbrev pub meant : Result Command Unreadable → Result Said Unreadable
+meant (Ok c) = Ok (said c)
+meant (Err e) = Err e
+
+abbrev pub heard : Option (Result Command Unreadable) → Heard
+heard None = silent
+heard (Some r) = answered (meant r)

@@ -1,5 +1,4 @@
 // What a line of a job can say.
-use crate::unreadable::Unreadable;
 
 // A command. Its numbers are within the limits of their types, and a gate number is any `u32`.
 #[derive(Clone, Copy)]
@@ -36,12 +35,4 @@ pub enum Layers<'a> {
 pub enum Ground {
     Ledger(u32),
     Card,
-}
-
-// What a line is read as. A line without words and a line that begins with `#` gets no answer.
-#[derive(Clone, Copy)]
-pub enum Reading<'a> {
-    Silent,
-    Unreadable(Unreadable),
-    Command(Command<'a>),
 }

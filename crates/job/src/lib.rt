@@ -13,7 +13,7 @@ mod reading;
 mod unreadable;
 mod words;
 
-pub use command::{Command, Ground, Layers, Opening, Reading};
+pub use command::{Command, Ground, Layers, Opening};
 pub use lines::next_line;
 pub use lists::{Holding, next_entry, next_serial};
 pub use reading::read_line;

@@ -1,11 +1,12 @@
 // Reads what stands behind `open`: a gate number and the book to open the gate over.
 ghost use Rattle.std.specs.Prelude.{◌≡◌, None, Ok, Err, MatchOption, MatchResult};
 ghost use Rattle.job.specs.Books.{listed, behind_over, recalling, layer, layers, floor, all_held, held_in, entries, sheets, floor_of};
-ghost use Rattle.job.specs.Commands.{answered, heard, opening};
+ghost use Rattle.job.specs.Commands.{opening, said};
+ghost use Rattle.job.specs.declared.command.Command.TheVariants as Command;
 ghost use Rattle.job.specs.Operands.{part};
 ghost use Rattle.job.specs.Words.{words};
 
-use crate::command::{Command, Ground, Layers, Opening, Reading};
+use crate::command::{Ground, Layers, Opening};
 use crate::limits::{GATE, RECORDS, SMALL};
 use crate::lists::read_entry;
 use crate::numbers::number;
@@ -32,11 +33,9 @@ fn past_over(text: &[u8]) -> Result<&[u8], Unreadable>
 fn behind_recall(text: &[u8]) -> Option<&[u8]>
     ensures { MatchOption result (layer (words text.now) ≡ Ok None) (λ after. layer (words text.now) ≡ recalling (listed (words after.now)) (behind_over (words after.now))) }
 {
-    let (word, after) = next_word(text)?;
-    if word == b"recall".as_slice() {
-        Some(after)
-    } else {
-        None
+    match next_word(text)? {
+        (b"recall", after) => Some(after),
+        _ => None,
     }
 }
 
@@ -96,26 +95,18 @@ fn read_entries(rest: &[u8]) -> Result<&[u8], Unreadable>
     Ok(text)
 }
 
-// The command `open` with the gate and the book behind it.
-pub(crate) fn read_opening(rest: &[u8]) -> Reading<'_>
-    ensures { heard result ≡ answered (opening (words rest.now)) }
+// The gate and the book that stand behind `open`.
+pub(crate) fn read_opening(rest: &[u8]) -> Result<Opening<'_>, Unreadable>
+    ensures { MatchResult result (λ o. opening (words rest.now) ≡ Ok (said (Command.Open o))) (λ e. opening (words rest.now) ≡ Err e) }
 {
-    match first_number(rest, GATE) {
-        Err(why) => Reading::Unreadable(why),
-        Ok((gate, rest)) => match read_layers(rest) {
-            Err(why) => Reading::Unreadable(why),
-            Ok((layers, rest)) => match read_ground(rest) {
-                Err(why) => Reading::Unreadable(why),
-                Ok((ground, rest)) => match read_entries(rest) {
-                    Err(why) => Reading::Unreadable(why),
-                    Ok(entries) => Reading::Command(Command::Open(Opening {
-                        gate,
-                        layers,
-                        ground,
-                        entries,
-                    })),
-                },
-            },
-        },
-    }
+    let (gate, rest) = first_number(rest, GATE)?;
+    let (layers, rest) = read_layers(rest)?;
+    let (ground, rest) = read_ground(rest)?;
+    let entries = read_entries(rest)?;
+    Ok(Opening {
+        gate,
+        layers,
+        ground,
+        entries,
+    })
 }
