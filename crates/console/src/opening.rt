@@ -3,12 +3,11 @@ ghost use Rattle.std.specs.Prelude.{◌≡◌, [], IfOk, Ok, Err, MatchResult};
 ghost use Rattle.book.specs.Sheet.{sheet_list, SheetSound};
 ghost use Rattle.job.specs.Books.{listed, held_in, sheets, floor_of};
 ghost use Rattle.job.specs.Words.{words};
-ghost use Rattle.console.specs.Openings.{filled, both_filled, stocked, opened, standing_of, shelf_means, floor_means};
+ghost use Rattle.console.specs.Openings.{filled, both_filled, stocked, opened, shelf_means, floor_means};
 ghost use Rattle.console.specs.Piles.{PileSound, pile_state};
 ghost use Rattle.console.specs.Shelves.{ShelfSound};
 
 use crate::shelf::Shelf;
-use book::entry::{Entry, Standing};
 use book::filing::Book;
 use book::recall::Recall;
 use book::sheet::Sheet;
@@ -35,16 +34,6 @@ fn fill(text: &[u8]) -> Result<Sheet, Denial>
     Ok(sheet)
 }
 
-// The standing with this number, which is 1 or 2.
-fn standing_of(number: u8) -> Standing
-    ensures answer { result ≡ standing_of number }
-{
-    match number {
-        1 => Standing::Rule,
-        _ => Standing::Saying,
-    }
-}
-
 // The book with the entries of the text filed in it.
 fn stock(book: Shelf, text: &[u8]) -> Result<Shelf, Denial>
     requires { ShelfSound book }
@@ -53,12 +42,8 @@ fn stock(book: Shelf, text: &[u8]) -> Result<Shelf, Denial>
 {
     let mut stocked = book;
     let mut rest = text;
-    while let Some((holding, after)) = next_entry(rest) {
-        stocked.file(Entry {
-            serial: holding.serial,
-            standing: standing_of(holding.standing),
-            row: holding.row,
-        })?;
+    while let Some((entry, after)) = next_entry(rest) {
+        stocked.file(entry)?;
         rest = after;
     }
     Ok(stocked)

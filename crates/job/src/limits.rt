@@ -1,4 +1,4 @@
-// The largest number of each kind that a line may hold.
+// The largest number of each kind that a line may hold. A reading generic in the type would need a trait for these limits, since its contract names them.
 
 pub(crate) const GATE: u32 = u32::MAX;
 

@@ -2,7 +2,7 @@
 ghost use Rattle.std.specs.Prelude.{◌≡◌, None, Ok, Err, MatchOption, MatchResult};
 ghost use Rattle.job.specs.Books.{listed, behind_over, recalling, layer, layers, floor, all_held, held_in, entries, sheets, floor_of};
 ghost use Rattle.job.specs.Commands.{opening, said};
-ghost use Rattle.job.specs.declared.command.Command.TheVariants as Command;
+ghost use Rattle.job.specs.declared.command.Command.TheVariants as commands;
 ghost use Rattle.job.specs.Operands.{part};
 ghost use Rattle.job.specs.Words.{words};
 
@@ -97,7 +97,7 @@ fn read_entries(rest: &[u8]) -> Result<&[u8], Unreadable>
 
 // The gate and the book that stand behind `open`.
 pub(crate) fn read_opening(rest: &[u8]) -> Result<Opening<'_>, Unreadable>
-    ensures { MatchResult result (λ o. opening (words rest.now) ≡ Ok (said (Command.Open o))) (λ e. opening (words rest.now) ≡ Err e) }
+    ensures { MatchResult result (λ o. opening (words rest.now) ≡ Ok (said (commands.Open o))) (λ e. opening (words rest.now) ≡ Err e) }
 {
     let (gate, rest) = first_number(rest, GATE)?;
     let (layers, rest) = read_layers(rest)?;
