@@ -1,6 +1,7 @@
 -- A line is read as a command just where its words say it, and as nothing just where it is hushed. Assumes nothing.
-use Rattle.std.proofs.Common.{◌≡◌, ℕ, eqb, List, [], ◌∷◌, Some, None, Ok, Err, Option, Result, sym, refl, ap, ◌∙◌, subst, arith}
-use Rattle.std.proofs.lemmas.Bool.{cond_both, eqb-true}
+use Rattle.std.proofs.Common.{◌≡◌, ℕ, false, eqb, List, [], ◌∷◌, Some, None, Ok, Err, Option, Result, sym, refl, ap, ◌∙◌, subst, arith}
+use Rattle.std.specs.List.{starts_with}
+use Rattle.std.proofs.lemmas.Bool.{cond_both, eqb-true, false≢true}
 use Rattle.job.specs.declared.keyword.Keyword.{Keyword}
 use Rattle.job.specs.declared.unreadable.Unreadable.{Unreadable}
 use Rattle.job.specs.declared.unreadable.Unreadable.TheVariants.{UnknownCommand}
@@ -73,6 +74,14 @@ said (b ∷ bs) c l =
 
 single : (line : List ℕ) (c d : Said) → Line (words line) c → Line (words line) d → c ≡ d
 single line c d l m = let one = said line c l in let two = said line d m in cc
+
+-- a line that does not begin with '#' is read by its words
+pub reading_words : (line w : List ℕ) (ws : List (List ℕ)) → false ≡ starts_with eqb line (35 ∷ []) → words line ≡ w ∷ ws → reading line ≡ spoken_by (keyword w) ws
+reading_words [] w ws e i = absurd (let z : ◌≡◌ {A = ℕ} 0 1 = cc in omega arith)
+reading_words (b ∷ bs) w ws e i =
+    cond_both (eqb b 35) silent (spoken (words (b ∷ bs))) (λ h. h ≡ spoken_by (keyword w) ws)
+    (λ t. let P : ℕ → Type 0 = λ x. false ≡ starts_with eqb (x ∷ bs) (35 ∷ []) in absurd (false≢true (subst P (eqb-true b 35 t) e)))
+    (λ _. ap spoken i)
 
 pub exactly : (line : List ℕ) (h : Heard) → h ≡ reading line → Exactly line h
 exactly line h e = record {
