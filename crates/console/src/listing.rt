@@ -1,6 +1,5 @@
 // All live entries of a gate's book.
 ghost use Rattle.std.specs.Prelude.{◌≡◌, IfOk};
-ghost use Rattle.gate.specs.State.{state_of};
 ghost use Rattle.gate.specs.Listings.{all_live};
 
 use book::entry::Entry;
