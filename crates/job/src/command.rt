@@ -45,7 +45,7 @@ pub enum Layers<'a> {
     Two(&'a [u8], &'a [u8]),
 }
 
-// The lowest book: a ledger with this many records, or a card.
+// The lowest book: a ledger with this many records, or a card, which an `Option` would leave without a name.
 #[derive(Clone, Copy)]
 pub enum Ground {
     Ledger(u32),
