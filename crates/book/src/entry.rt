@@ -20,10 +20,7 @@ impl TryFrom<u8> for Standing {
         match number {
             1 => Ok(Standing::Rule),
             2 => Ok(Standing::Saying),
-            _ => Err(Denial {
-                reason: Reason::UnknownStanding,
-                place: 0,
-            }),
+            _ => Err(Reason::UnknownStanding.at(0)),
         }
     }
 }

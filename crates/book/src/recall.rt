@@ -59,20 +59,14 @@ impl<B: Book> Book for Recall<B> {
     // A recalled serial is barred here, whatever the book below would say.
     fn file(&mut self, entry: Entry) -> Result<(), Denial> {
         if self.sheet.contains(entry.serial) {
-            return Err(Denial {
-                reason: Reason::SerialBarred,
-                place: entry.serial as u64,
-            });
+            return Err(Reason::SerialBarred.at(entry.serial as u64));
         }
         self.below.file(entry)
     }
 
     fn strike(&mut self, serial: u16) -> Result<(), Denial> {
         if self.sheet.contains(serial) {
-            return Err(Denial {
-                reason: Reason::NotLive,
-                place: serial as u64,
-            });
+            return Err(Reason::NotLive.at(serial as u64));
         }
         self.below.strike(serial)
     }

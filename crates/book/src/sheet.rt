@@ -41,19 +41,13 @@ impl Sheet {
         ensures after { sheet_list self.new ≡ sheet_add_after (sheet_list self.old) serial }
     {
         if serial == 0 {
-            return Err(Denial {
-                reason: Reason::SerialZero,
-                place: 0,
-            });
+            return Err(Reason::SerialZero.at(0));
         }
         if self.contains(serial) {
             return Ok(());
         }
         if self.count == SHEET_SIZE {
-            return Err(Denial {
-                reason: Reason::SheetFull,
-                place: 0,
-            });
+            return Err(Reason::SheetFull.at(0));
         }
         self.serials[self.count] = serial;
         self.count += 1;

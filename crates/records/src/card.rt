@@ -58,23 +58,14 @@ impl Book for CardBook {
 
     fn file(&mut self, entry: Entry) -> Result<(), Denial> {
         if entry.serial == 0 {
-            return Err(Denial {
-                reason: Reason::SerialZero,
-                place: 0,
-            });
+            return Err(Reason::SerialZero.at(0));
         }
         if entry.serial > LAST_CARD {
-            return Err(Denial {
-                reason: Reason::SerialBarred,
-                place: entry.serial as u64,
-            });
+            return Err(Reason::SerialBarred.at(entry.serial as u64));
         }
         let at = entry.serial as usize - 1;
         if self.cards[at].serial != 0 {
-            return Err(Denial {
-                reason: Reason::SerialLive,
-                place: entry.serial as u64,
-            });
+            return Err(Reason::SerialLive.at(entry.serial as u64));
         }
         self.cards[at] = entry;
         Ok(())
@@ -82,10 +73,7 @@ impl Book for CardBook {
 
     fn strike(&mut self, serial: u16) -> Result<(), Denial> {
         if self.lookup(serial).is_none() {
-            return Err(Denial {
-                reason: Reason::NotLive,
-                place: serial as u64,
-            });
+            return Err(Reason::NotLive.at(serial as u64));
         }
         self.cards[serial as usize - 1] = BLANK;
         Ok(())

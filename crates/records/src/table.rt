@@ -42,22 +42,13 @@ pub(crate) fn put_in(
     ensures behind { (k : ℕ) → size ≤ k → slice_index_or records.new k blank ≡ slice_index_or records.old k blank }
 {
     if entry.serial == 0 {
-        return Err(Denial {
-            reason: Reason::SerialZero,
-            place: 0,
-        });
+        return Err(Reason::SerialZero.at(0));
     }
     match find(&records[..*count], entry.serial) {
-        Ok(_) => Err(Denial {
-            reason: Reason::SerialLive,
-            place: entry.serial as u64,
-        }),
+        Ok(_) => Err(Reason::SerialLive.at(entry.serial as u64)),
         Err(at) => {
             if *count == size {
-                return Err(Denial {
-                    reason: Reason::NoFreePlace,
-                    place: entry.serial as u64,
-                });
+                return Err(Reason::NoFreePlace.at(entry.serial as u64));
             }
             shift_in(records, *count, at, entry);
             *count += 1;
@@ -85,9 +76,6 @@ pub(crate) fn take_out(
             *count -= 1;
             Ok(())
         }
-        Err(_) => Err(Denial {
-            reason: Reason::NotLive,
-            place: serial as u64,
-        }),
+        Err(_) => Err(Reason::NotLive.at(serial as u64)),
     }
 }

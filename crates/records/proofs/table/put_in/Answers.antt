@@ -8,12 +8,13 @@ returns-in-Ok c =
     let found = sought_in_use c.args.records.now c.args.size c.args.count.now c.requires c.args.entry.serial (Ok _) c.in-Ok.ensures in
     let done = live_already c.args.records.now c.args.size c.args.count.now _ c.args.entry
     c.requires (λ z. omega arith) found.0 found.1 in
-    record { kept = c.requires; answer = done.answer; after = done.after; behind = λ k le. refl }
+    record { kept = c.requires; answer = (cc); after = done.after; behind = λ k le. refl }
 
 pub returns-then-count-size-clause-answer : goal.returns-then-count-size-clause-answer
 returns-then-count-size-clause-answer c =
     let absent = sought_in_use c.args.records.now c.args.size c.args.count.now c.requires c.args.entry.serial (Err c.in-Err.at) c.in-Err.ensures in
-    (none_free c.args.records.now c.args.size c.args.count.now c.args.entry (λ z. omega arith) absent.1 (omega arith)).answer
+    let done = none_free c.args.records.now c.args.size c.args.count.now c.args.entry (λ z. omega arith) absent.1 (omega arith) in
+    cc
 
 pub returns-else-count-size : goal.returns-else-count-size
 returns-else-count-size c =

@@ -25,4 +25,4 @@ returns-in-Err c =
     let absent = sought_in_use c.args.records.now c.args.size c.args.count.now c.requires c.args.serial (Err c.in-Err.field-0) c.in-Err.ensures in
     let dead = held_none c.args.records.now c.args.count.now c.args.serial absent.1 in
     let done = strikes_not m c.args.serial _ m (ap is_some dead) refl refl in
-    record { kept = c.requires; answer = done.answer; after = done.after; behind = λ k le. refl }
+    record { kept = c.requires; answer = (cc); after = done.after; behind = λ k le. refl }
