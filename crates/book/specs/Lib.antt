@@ -1,4 +1,5 @@
 pub mod Live
+pub mod Standing
 pub mod Single
 pub mod Meaning
 pub mod Laws

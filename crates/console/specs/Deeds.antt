@@ -14,8 +14,8 @@ use Rattle.console.specs.declared.answer.Answer.{Answer}
 use Rattle.console.specs.declared.answer.Answer.TheVariants as answers
 use Rattle.console.specs.declared.answer.Fault.{Fault}
 use Rattle.console.specs.declared.answer.Fault.TheVariants as faults
-use Rattle.console.specs.declared.deed.Deed.{Deed}
-use Rattle.console.specs.declared.deed.Deed.TheVariants.{Principal, Statement, File, Strike, List as Listing}
+use Rattle.job.specs.declared.command.Deed.{Deed}
+use Rattle.job.specs.declared.command.Deed.TheVariants.{Principal, Statement, File, Strike, List as Listing}
 use Rattle.gate.specs.Listings.{all_live}
 use Rattle.console.specs.Replies.{Reply, opened_gate, at_gate, row, filed, struck, refused, unreadable, live}
 
@@ -56,15 +56,15 @@ Lists es (unreadable f) = OutOfMemory f
 Lists es (live l) = l ≡ es
 
 abbrev pub Replies : Deed → State → Reply → Type 0
-Replies (Principal f x y) g r = r ≡ named_reply (principal_call g f x y)
-Replies (Statement f x y) g r = r ≡ named_reply (statement_call g f x y)
+Replies (Principal n) g r = r ≡ named_reply (principal_call g n.form n.x n.y)
+Replies (Statement n) g r = r ≡ named_reply (statement_call g n.form n.x n.y)
 Replies (File serial standing n) g r = r ≡ done_reply filed (filing g serial standing n)
 Replies (Strike serial) g r = r ≡ done_reply struck (striking g serial)
 Replies Listing g r = Lists (all_live g.book.live) r
 
 abbrev pub deed_left : Deed → State → State
-deed_left (Principal f x y) g = principal_left g f x y
-deed_left (Statement f x y) g = statement_left g f x y
+deed_left (Principal n) g = principal_left g n.form n.x n.y
+deed_left (Statement n) g = statement_left g n.form n.x n.y
 deed_left (File serial standing n) g = filing_left g serial standing n
 deed_left (Strike serial) g = striking_left g serial
 deed_left Listing g = g

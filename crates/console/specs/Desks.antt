@@ -7,6 +7,7 @@
 -- Opens d n opened r e      what `open` answers and leaves
 -- turn_reply d n, turned d n    what `at` answers and leaves
 -- AtGate d deed r e         what a deed at the current gate answers and leaves
+-- naming f x y              what is to be named, by its form and operands
 -- Did d said r e            what a command answers and leaves
 use Rattle.std.specs.Prelude.{◌≡◌, ℕ, cond, List, [], ◌∷◌, ◌++◌, map, length, is_some, Some, None, Ok, Err, vec_items, Option, Result, nat_eq, nat_le, slice_set}
 use Rattle.std.specs.List.{slice_get}
@@ -19,8 +20,9 @@ use Rattle.job.specs.Commands.{unreadable as misread}
 use Rattle.console.specs.declared.answer.Answer.{Answer}
 use Rattle.console.specs.declared.answer.Fault.TheVariants.{Line, NoGate, OpenAlready, NotOpen, NinthGate}
 use Rattle.console.specs.declared.console.Console.{Console}
-use Rattle.console.specs.declared.deed.Deed.{Deed}
-use Rattle.console.specs.declared.deed.Deed.TheVariants.{Principal, Statement, File, Strike, List as Listing}
+use Rattle.job.specs.declared.command.Deed.{Deed}
+use Rattle.job.specs.declared.command.Naming.{Naming}
+use Rattle.job.specs.declared.command.Deed.TheVariants.{Principal, Statement, File, Strike, List as Listing}
 use Rattle.console.specs.Deeds.{reply, Replies, deed_left, OutOfMemory}
 use Rattle.console.specs.Openings.{opened}
 use Rattle.console.specs.Piles.{Pile, pile_state}
@@ -86,11 +88,14 @@ AtState d deed (Some g) r e = Replies deed g r × (e ≡ desk (slice_set d.gates
 abbrev pub AtGate : Desk → Deed → Reply → Desk → Type 0
 AtGate d deed r e = AtState d deed (slice_get d.gates d.current) r e
 
+abbrev pub naming : ℕ → ℕ → ℕ → Naming
+naming f x y = record { form = f; x = x; y = y }
+
 abbrev pub Did : Desk → Said → Reply → Desk → Type 0
 Did d (opens n ls f hs) r e = Opens d n (opened n ls f hs) r e
 Did d (turns n) r e = (r ≡ turn_reply d n) × (e ≡ turned d n)
-Did d (principal f x y) r e = AtGate d (Principal f x y) r e
-Did d (statement f x y) r e = AtGate d (Statement f x y) r e
+Did d (principal f x y) r e = AtGate d (Principal (naming f x y)) r e
+Did d (statement f x y) r e = AtGate d (Statement (naming f x y)) r e
 Did d (files serial standing n) r e = AtGate d (File serial standing n) r e
 Did d (strikes serial) r e = AtGate d (Strike serial) r e
 Did d lists r e = AtGate d Listing r e

@@ -1,4 +1,4 @@
-// What a line asks of the current gate, and doing it.
+// Doing what a line asks of the current gate.
 ghost use Rattle.std.specs.Prelude.{◌≡◌};
 ghost use Rattle.gate.specs.State.{state_of};
 ghost use Rattle.console.specs.Deeds.{reply, named_reply, done_reply, Lists, Replies, deed_left};
@@ -11,16 +11,8 @@ use book::filing::Book;
 use book::register::Register;
 use denials::denial::Denial;
 use gate::gate::Gate;
+use job::Deed;
 use std::alloc::Global;
-
-#[derive(Clone, Copy)]
-pub enum Deed {
-    Principal { form: u8, x: u16, y: u16 },
-    Statement { form: u8, x: u16, y: u16 },
-    File { serial: u16, standing: u8, row: u16 },
-    Strike(u16),
-    List,
-}
 
 fn named(res: Result<u16, Denial>) -> Answer
     ensures answer { reply result ≡ named_reply res }
@@ -64,8 +56,8 @@ pub(crate) fn act<B: Book>(heap: Global, gate: &mut Gate<B>, deed: Deed) -> Answ
     ensures after { state_of B.Register.live B.Book.barred B.Book.free gate.new ≡ deed_left deed (state_of B.Register.live B.Book.barred B.Book.free gate.old) }
 {
     match deed {
-        Deed::Principal { form, x, y } => named(gate.principal(form, x, y)),
-        Deed::Statement { form, x, y } => named(gate.statement(form, x, y)),
+        Deed::Principal(n) => named(gate.principal(n.form, n.x, n.y)),
+        Deed::Statement(n) => named(gate.statement(n.form, n.x, n.y)),
         Deed::File {
             serial,
             standing,

@@ -10,10 +10,10 @@ ghost use Rattle.console.specs.Openings.{opened};
 
 use crate::answer::{Answer, Fault};
 use crate::console::Console;
-use crate::deed::{Deed, act};
+use crate::deed::act;
 use crate::opening::{Pile, open_gate};
 use gate::gate::Gate;
-use job::{Command, Opening, Reading, read_line};
+use job::{Command, Deed, Opening, read_line};
 use std::alloc::Global;
 
 // No more gates than this are open in one job.
@@ -110,19 +110,7 @@ impl Console {
         match command {
             Command::Open(opening) => self.open(opening),
             Command::At(number) => self.turn(number),
-            Command::Principal { form, x, y } => self.at_gate(Deed::Principal { form, x, y }),
-            Command::Statement { form, x, y } => self.at_gate(Deed::Statement { form, x, y }),
-            Command::File {
-                serial,
-                standing,
-                row,
-            } => self.at_gate(Deed::File {
-                serial,
-                standing,
-                row,
-            }),
-            Command::Strike(serial) => self.at_gate(Deed::Strike(serial)),
-            Command::Book => self.at_gate(Deed::List),
+            Command::Deed(deed) => self.at_gate(deed),
         }
     }
 
@@ -130,10 +118,9 @@ impl Console {
     pub fn line(&mut self, line: &[u8]) -> Option<Answer>
         ensures heeded { Heeded (desk_of self.old) (reading line.now) (answered_as result) (desk_of self.new) }
     {
-        match read_line(line) {
-            Reading::Silent => None,
-            Reading::Unreadable(why) => Some(Answer::Unreadable(Fault::Line(why))),
-            Reading::Command(command) => Some(self.obey(command)),
+        match read_line(line)? {
+            Ok(command) => Some(self.obey(command)),
+            Err(why) => Some(Answer::Unreadable(Fault::Line(why))),
         }
     }
 }

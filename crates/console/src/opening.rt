@@ -3,11 +3,10 @@ ghost use Rattle.std.specs.Prelude.{◌≡◌, [], Ok, Err, MatchResult};
 ghost use Rattle.book.specs.Sheet.{sheet_list};
 ghost use Rattle.job.specs.Books.{listed, held_in, sheets, floor_of};
 ghost use Rattle.job.specs.Words.{words};
-ghost use Rattle.console.specs.Openings.{filled, both_filled, stocked, opened, standing_of, shelf_means, floor_means};
+ghost use Rattle.console.specs.Openings.{filled, both_filled, stocked, opened, shelf_means, floor_means};
 ghost use Rattle.console.specs.Piles.{pile_state};
 
 use crate::shelf::Shelf;
-use book::entry::{Entry, Standing};
 use book::filing::Book;
 use book::recall::Recall;
 use book::sheet::Sheet;
@@ -33,28 +32,14 @@ fn fill(text: &[u8]) -> Result<Sheet, Denial>
     Ok(sheet)
 }
 
-// The standing with this number, which is 1 or 2.
-fn standing_of(number: u8) -> Standing
-    ensures answer { result ≡ standing_of number }
-{
-    match number {
-        1 => Standing::Rule,
-        _ => Standing::Saying,
-    }
-}
-
 // The book with the entries of the text filed in it.
 fn stock(book: Shelf, text: &[u8]) -> Result<Shelf, Denial>
     ensures answer { MatchResult result (λ b. stocked (shelf_means book) (held_in (words text.now)) ≡ Ok (shelf_means b)) (λ d. stocked (shelf_means book) (held_in (words text.now)) ≡ Err d) }
 {
     let mut stocked = book;
     let mut rest = text;
-    while let Some((holding, after)) = next_entry(rest) {
-        stocked.file(Entry {
-            serial: holding.serial,
-            standing: standing_of(holding.standing),
-            row: holding.row,
-        })?;
+    while let Some((entry, after)) = next_entry(rest) {
+        stocked.file(entry)?;
         rest = after;
     }
     Ok(stocked)

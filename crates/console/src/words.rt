@@ -1,6 +1,6 @@
 // Answers in words.
 use crate::answer::{Answer, Fault};
-use book::entry::{Entry, Standing};
+use book::entry::Entry;
 use std::fmt;
 
 impl fmt::Display for Fault {
@@ -16,18 +16,11 @@ impl fmt::Display for Fault {
     }
 }
 
-fn standing_word(standing: Standing) -> &'static str {
-    match standing {
-        Standing::Rule => "rule",
-        Standing::Saying => "saying",
-    }
-}
-
 fn list<W: fmt::Write>(entries: &[Entry], f: &mut fmt::Formatter<W>) -> fmt::Result {
     f.write_str("live")?;
     for entry in entries {
         let serial = entry.serial;
-        let standing = standing_word(entry.standing);
+        let standing = entry.standing;
         let row = entry.row;
         write!(f, " {serial}:{standing}:{row}")?;
     }

@@ -6,11 +6,11 @@
 -- principal_call g f a b                 naming a principal: the answer
 -- principal_left g f a b                 the gate afterwards
 -- statement_call, statement_left         the same for a statement
--- standing_numbered n                    rule for 1, saying for 2
+-- standing_numbered n                    rule for 1, saying for 2 (book/specs/Standing.antt)
 -- filing g serial standing row           what filing answers: denied 4, standing neither 1 nor 2; denied 5, row not named; then as the book answers
 -- filing_left g serial standing row      the gate afterwards
 -- striking g serial, striking_left       striking: as the book answers
-use Rattle.std.specs.Prelude.{ℕ, Bool, cond, [], is_some, Some, None, Err, Option, Result, ◌==◌}
+use Rattle.std.specs.Prelude.{ℕ, Bool, cond, [], is_some, Some, None, Err, Option, Result}
 use Rattle.std.specs.List.{slice_get}
 use Rattle.denials.specs.declared.denial.Denial.{Denial}
 use Rattle.denials.specs.Denials.{denied}
@@ -19,8 +19,8 @@ use Rattle.terms.specs.Named.{rows_of}
 use Rattle.terms.specs.Written.{Rows}
 use Rattle.book.specs.declared.entry.Entry.{Entry}
 use Rattle.book.specs.declared.entry.Standing.{Standing}
-use Rattle.book.specs.declared.entry.Standing.TheVariants.{Rule, Saying}
 use Rattle.book.specs.Meaning.{Meaning, means, file_answer, file_after, strike_answer, strike_after}
+pub use Rattle.book.specs.Standing.{standing_numbered}
 use Rattle.gate.specs.declared.gate.Gate.{Gate}
 
 pub record State : Type 0 where
@@ -56,9 +56,6 @@ statement_call g f a b = statement_name g.rows f a b
 
 abbrev pub statement_left : State → ℕ → ℕ → ℕ → State
 statement_left g f a b = with_rows g (statement_named g.rows f a b)
-
-abbrev pub standing_numbered : ℕ → Option Standing
-standing_numbered n = cond (n == 1) (Some Rule) (cond (n == 2) (Some Saying) None)
 
 abbrev pub named_row : State → ℕ → Bool
 named_row g row = is_some (slice_get g.rows.statements row)

@@ -7,7 +7,7 @@ ghost use Rattle.book.specs.Live.{next_after};
 ghost use Rattle.terms.specs.Laws.{LawfulNaming, principal_name, principal_named, statement_name, statement_named};
 ghost use Rattle.terms.specs.Rows.{principal_form, principal_x, principal_y, statement_form, statement_x, statement_y};
 ghost use Rattle.gate.specs.Laws.{FiledAt, StruckAt};
-ghost use Rattle.gate.specs.State.{state_of, new_gate, principal_call, principal_left, statement_call, statement_left, standing_numbered, filing, filing_left, striking, striking_left};
+ghost use Rattle.gate.specs.State.{state_of, new_gate, principal_call, principal_left, statement_call, statement_left, filing, filing_left, striking, striking_left};
 
 use crate::gate::Gate;
 use book::entries::Entries;
@@ -16,17 +16,6 @@ use book::filing::Book;
 use book::register::Register;
 use denials::denial::{Denial, Reason};
 use terms::names::Names;
-
-// The standing with this number.
-fn standing_numbered(number: u8) -> Option<Standing>
-    ensures answer { result ≡ standing_numbered number }
-{
-    match number {
-        1 => Some(Standing::Rule),
-        2 => Some(Standing::Saying),
-        _ => None,
-    }
-}
 
 impl<B: Book> Gate<B> {
     // A gate with no rows over a book that may already hold entries.
@@ -84,12 +73,7 @@ impl<B: Book> Gate<B> {
         ensures answer { result ≡ filing (state_of B.Register.live B.Book.barred B.Book.free self.old) serial standing row }
         ensures after { state_of B.Register.live B.Book.barred B.Book.free self.new ≡ filing_left (state_of B.Register.live B.Book.barred B.Book.free self.old) serial standing row }
     {
-        let Some(standing) = standing_numbered(standing) else {
-            return Err(Denial {
-                reason: Reason::UnknownStanding,
-                place: 0,
-            });
-        };
+        let standing = Standing::try_from(standing)?;
         if self.names.statement_row(row).is_none() {
             return Err(Denial {
                 reason: Reason::RowNotNamed,

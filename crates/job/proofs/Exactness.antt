@@ -1,6 +1,7 @@
 -- A line is read as a command just where its words say it, and as nothing just where it is hushed. Assumes nothing.
-use Rattle.std.proofs.Common.{◌≡◌, ℕ, eqb, List, [], ◌∷◌, Some, None, Ok, Err, Option, Result, sym, refl, ap, ◌∙◌, subst, arith}
-use Rattle.std.proofs.lemmas.Bool.{cond_both, eqb-true}
+use Rattle.std.proofs.Common.{◌≡◌, ℕ, false, eqb, List, [], ◌∷◌, Some, None, Ok, Err, Option, Result, sym, refl, ap, ◌∙◌, subst}
+use Rattle.std.specs.List.{starts_with}
+use Rattle.std.proofs.lemmas.Bool.{cond_both, eqb-true, false≢true}
 use Rattle.job.specs.declared.keyword.Keyword.{Keyword}
 use Rattle.job.specs.declared.unreadable.Unreadable.{Unreadable}
 use Rattle.job.specs.declared.unreadable.Unreadable.TheVariants.{UnknownCommand}
@@ -20,15 +21,15 @@ hash_line : (bs : List ℕ) (c : Said) → Line (words (35 ∷ bs)) c → ⊥
 hash_line bs c l =
     let heard-one = hash_spoken (split 32 bs) in
     let heard-two = complete l in
-    let z : ◌≡◌ {A = ℕ} 0 1 = cc in omega arith
+    cc
 
 answered_loud : (r : Result Said Unreadable) → answered r ≡ silent → ⊥
-answered_loud (Ok c) e = let z : ◌≡◌ {A = ℕ} 0 1 = cc in omega arith
-answered_loud (Err e) i = let z : ◌≡◌ {A = ℕ} 0 1 = cc in omega arith
+answered_loud (Ok c) e = cc
+answered_loud (Err e) i = cc
 
 loud : (o : Option Keyword) (ws : List (List ℕ)) → spoken_by o ws ≡ silent → ⊥
 loud (Some k) ws e = answered_loud (saying k ws) e
-loud None ws e = let z : ◌≡◌ {A = ℕ} 0 1 = cc in omega arith
+loud None ws e = cc
 
 spoken_silent : (ws : List (List ℕ)) → spoken ws ≡ silent → ws ≡ []
 spoken_silent [] e = refl
@@ -54,15 +55,15 @@ hushes (b ∷ bs) e =
     e
 
 says : (line : List ℕ) (c : Said) → reading line ≡ command c → Line (words line) c
-says [] c e = let z : ◌≡◌ {A = ℕ} 0 1 = cc in absurd (omega arith)
+says [] c e = absurd cc
 says (b ∷ bs) c e =
     cond_both (eqb b 35) silent (spoken (words (b ∷ bs))) (λ h. h ≡ command c → Line (words (b ∷ bs)) c)
-    (λ _ i. let z : ◌≡◌ {A = ℕ} 0 1 = cc in absurd (omega arith))
+    (λ _ i. absurd cc)
     (λ _ i. sound (words (b ∷ bs)) c i)
     e
 
 empty_line : (c : Said) → Line [] c → ⊥
-empty_line c l = let heard-two = complete l in let z : ◌≡◌ {A = ℕ} 0 1 = cc in omega arith
+empty_line c l = let heard-two = complete l in cc
 
 said : (line : List ℕ) (c : Said) → Line (words line) c → reading line ≡ command c
 said [] c l = absurd (empty_line c l)
@@ -73,6 +74,14 @@ said (b ∷ bs) c l =
 
 single : (line : List ℕ) (c d : Said) → Line (words line) c → Line (words line) d → c ≡ d
 single line c d l m = let one = said line c l in let two = said line d m in cc
+
+-- a line that does not begin with '#' is read by its words
+pub reading_words : (line w : List ℕ) (ws : List (List ℕ)) → false ≡ starts_with eqb line (35 ∷ []) → words line ≡ w ∷ ws → reading line ≡ spoken_by (keyword w) ws
+reading_words [] w ws e i = absurd cc
+reading_words (b ∷ bs) w ws e i =
+    cond_both (eqb b 35) silent (spoken (words (b ∷ bs))) (λ h. h ≡ spoken_by (keyword w) ws)
+    (λ t. let P : ℕ → Type 0 = λ x. false ≡ starts_with eqb (x ∷ bs) (35 ∷ []) in absurd (false≢true (subst P (eqb-true b 35 t) e)))
+    (λ _. ap spoken i)
 
 pub exactly : (line : List ℕ) (h : Heard) → h ≡ reading line → Exactly line h
 exactly line h e = record {

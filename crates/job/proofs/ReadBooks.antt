@@ -118,7 +118,7 @@ data Given {A : Type 0} (o : Option ℕ) (f : ℕ → Option A) (a : A) : Type 0
 
 given_some : {A : Type 0} (o : Option ℕ) (f : ℕ → Option A) (a : A) → given o f ≡ Some a → Given o f a
 given_some (Some n) f a h = it_is n refl h
-given_some None f a h = let z : ◌≡◌ {A = ℕ} 0 1 = cc in absurd (omega arith)
+given_some None f a h = absurd cc
 
 module _ (w : List ℕ) (h : Held) where
   standing_means : (s t r : ℕ) → Number small_limit (front 58 w) s → Number standing_limit (front 58 (behind 58 w)) t → Number small_limit (behind 58 (behind 58 w)) r → cond (eqb t 0) None (Some (held s t r)) ≡ Some h → Entry w h
@@ -127,7 +127,7 @@ module _ (w : List ℕ) (h : Held) where
       let outer = cut_again 58 w (behind_some 58 (behind 58 w) nr.some) in
       let whole : front 58 w ++ 58 ∷ (front 58 (behind 58 w) ++ 58 ∷ behind 58 (behind 58 w)) ≡ w = ap (λ l. front 58 w ++ 58 ∷ l) inner ∙ outer in
       cond_both (eqb t 0) None (Some (held s t r)) (λ o. o ≡ Some h → Entry w h)
-      (λ e i. let z : ◌≡◌ {A = ℕ} 0 1 = cc in absurd (omega arith))
+      (λ e i. absurd cc)
       (λ e i.
       let some : 1 ≤ t = omega (arith, eqb-false t 0 e) in
       let same : held s t r ≡ h = cc in
@@ -147,7 +147,7 @@ module _ (w : List ℕ) (h : Held) where
 
 also_means : (w : List ℕ) (o : Option Held) (b : Bool) {ws : List (List ℕ)} {hs : List Held} → entry w ≡ o → (b ≡ true → Entries ws hs) → also o b ≡ true → Entries (w ∷ ws) (holding o hs)
 also_means w (Some h) b e more i = one_entry (entry_means w h e) (more i)
-also_means w None b e more i = let z : ◌≡◌ {A = ℕ} 0 1 = cc in absurd (omega arith)
+also_means w None b e more i = absurd cc
 
 held_means : (ws : List (List ℕ)) → all_held ws ≡ true → Entries ws (held_in ws)
 held_means [] e = no_entry

@@ -1,5 +1,5 @@
 -- What is read as a command is a line that says it. Assumes nothing.
-use Rattle.std.proofs.Common.{◌≡◌, ℕ, ◌≤◌, cond, List, [], ◌∷◌, ◌++◌, length, Some, None, Ok, Err, codes, Option, Result, subst, arith}
+use Rattle.std.proofs.Common.{◌≡◌, ℕ, ◌≤◌, cond, List, [], ◌∷◌, ◌++◌, length, Some, None, Ok, Err, codes, Option, Result, subst}
 use Rattle.std.specs.Str.{bytes_eq}
 use Rattle.std.proofs.lemmas.Bool.{cond_both}
 use Rattle.job.specs.declared.keyword.Keyword.{Keyword}
@@ -86,7 +86,7 @@ spelled w =
 
 answered_says : {w : List ℕ} {ws : List (List ℕ)} {r : Result Said Unreadable} (c : Said) → Says w ws r → answered r ≡ command c → Line (w ∷ ws) c
 answered_says {w} {ws} c (says {c = d} l) e = let same : d ≡ c = cc in subst (Line (w ∷ ws)) same l
-answered_says c mute e = let z : ◌≡◌ {A = ℕ} 0 1 = cc in absurd (omega arith)
+answered_says c mute e = absurd cc
 
 spoken_says : {w : List ℕ} {o : Option Keyword} (ws : List (List ℕ)) (c : Said) → Spelled w o → spoken_by o ws ≡ command c → Line (w ∷ ws) c
 spoken_says ws c spells_open e = answered_says c (says_open (first_view gate_limit ws)) e
@@ -96,9 +96,9 @@ spoken_says ws c spells_statement e = answered_says c (says_statement (three_vie
 spoken_says ws c spells_file e = answered_says c (says_file (three_view small_limit code_limit small_limit ws)) e
 spoken_says ws c spells_strike e = answered_says c (says_strike (one_view small_limit ws)) e
 spoken_says ws c spells_book e = answered_says c (says_book ws) e
-spoken_says ws c spells_none e = let z : ◌≡◌ {A = ℕ} 0 1 = cc in absurd (omega arith)
+spoken_says ws c spells_none e = absurd cc
 
 -- words that are read as a command are a line that says it
 pub sound : (ws : List (List ℕ)) (c : Said) → spoken ws ≡ command c → Line ws c
-sound [] c e = let z : ◌≡◌ {A = ℕ} 0 1 = cc in absurd (omega arith)
+sound [] c e = absurd cc
 sound (w ∷ ws) c e = spoken_says ws c (spelled w) e

@@ -1,8 +1,9 @@
 -- Splitting a list at a byte, step by step. Assumes nothing.
-use Rattle.std.proofs.Common.{◌≡◌, ℕ, ◌+◌, ◌-◌, ◌<◌, ◌≤◌, true, false, cond, eqb, ◌⊎◌, List, [], ◌∷◌, ◌++◌, length, get_or, take, drop, sym, refl, ap, ◌∙◌, subst, inl, inr, append_assoc, append-nil, arith}
-use Rattle.std.specs.List.{flat_map, AllByRecursion}
-use Rattle.std.proofs.lemmas.List.{at_drop_more, at_drop_all, drop_more, drop_all, take_more, take_all, take_rest, nil_from_length}
-use Rattle.std.proofs.lemmas.Bool.{eqb-true, eqb-false, eq-eqb, ne_eqb, cond-true, cond-false, cond_both}
+use Rattle.std.proofs.Common.{◌≡◌, ℕ, suc, ◌+◌, ◌<◌, true, false, cond, eqb, not, ◌⊎◌, List, [], ◌∷◌, ◌++◌, length, take, drop, sym, refl, ap, ◌∙◌, subst, inl, inr, arith}
+use Rattle.std.specs.List.{flat_map, AllByRecursion, prefix_len, position_or_len, before_first, after_first}
+use Rattle.std.proofs.Math.Numerals.{one-add}
+use Rattle.std.proofs.lemmas.List.{nil_from_length}
+use Rattle.std.proofs.lemmas.Bool.{eqb-true, eqb-false, cond-true, cond-false, cond_both}
 use Rattle.job.specs.Words.{front, behind, onto, split, keep, filled, trimmed, word, rest, words, without, Lacks, Proper}
 use Rattle.job.specs.Lines.{lines, ended, Whole}
 
@@ -13,41 +14,24 @@ split_first b x (y ∷ ys) =
     let more = split_first b y ys in
     elim (eqb x b) as (λ t. cond t ([] ∷ split b (y ∷ ys)) (onto x (split b (y ∷ ys))) ≡ cond t [] (x ∷ front b (y ∷ ys)) ∷ split b (cond t (y ∷ ys) (behind b (y ∷ ys)))) [ true ↦ refl | false ↦ ap (onto x) more ]
 
--- a walk over the leading spaces
-pub trimmed_more : (xs : List ℕ) (i : ℕ) → i < length xs → get_or xs i 0 ≡ 32 → trimmed (drop (i + 1) xs) ≡ trimmed (drop i xs)
-trimmed_more xs i h e = sym (at_drop_more trimmed xs i 0 h ∙ cond-true _ _ _ (eq-eqb _ 32 e))
+-- a cut at the first b, in std's words
+pub front_first : (b : ℕ) (xs : List ℕ) → front b xs ≡ before_first (λ x. eqb x b) xs
+front_first b [] = refl
+front_first b (x ∷ xs) =
+    elim (eqb x b) as (λ t. cond t [] (x ∷ front b xs) ≡ take (cond (not t) (1 + position_or_len (λ y. eqb y b) xs) 0) (x ∷ xs))
+    [ true ↦ refl | false ↦ ap (λ l. x ∷ l) (front_first b xs) ∙ sym (ap (λ n. take n (x ∷ xs)) (one-add _)) ]
 
-pub trimmed_stops : (xs : List ℕ) (i : ℕ) → i < length xs → (get_or xs i 0 ≡ 32 → ⊥) → trimmed (drop i xs) ≡ trimmed xs → take (length xs - i) (drop i xs) ≡ trimmed xs
-trimmed_stops xs i h e inv = take_rest xs i ∙ drop_more xs i 0 h ∙ sym (at_drop_more trimmed xs i 0 h ∙ cond-false _ _ _ (ne_eqb _ 32 e)) ∙ inv
+pub behind_first : (b : ℕ) (xs : List ℕ) → behind b xs ≡ after_first (λ x. eqb x b) xs
+behind_first b [] = refl
+behind_first b (x ∷ xs) =
+    elim (eqb x b) as (λ t. cond t xs (behind b xs) ≡ drop (cond (not t) (1 + position_or_len (λ y. eqb y b) xs) 0 + 1) (x ∷ xs))
+    [ true ↦ refl | false ↦ let n = position_or_len (λ y. eqb y b) xs in let more : suc (n + 1) ≡ 1 + n + 1 = omega arith in behind_first b xs ∙ ap (λ m. drop m (x ∷ xs)) more ]
 
-pub trimmed_end : (xs : List ℕ) (i : ℕ) → length xs ≤ i → trimmed (drop i xs) ≡ trimmed xs → take (length xs - length xs) (drop (length xs) xs) ≡ trimmed xs
-trimmed_end xs i h e = take_rest xs (length xs) ∙ drop_all (length xs) xs (omega arith) ∙ sym (at_drop_all trimmed xs i h) ∙ e
-
--- a walk to the end, with no b on the way
-pub front_end : (b : ℕ) (xs : List ℕ) (i : ℕ) → length xs ≤ i → take i xs ++ front b (drop i xs) ≡ front b xs → take (length xs) xs ≡ front b xs
-front_end b xs i h e =
-    let none = at_drop_all (front b) xs i h in
-    take_all (length xs) xs (omega arith) ∙ sym (ap (λ l. take i xs ++ l) none ∙ append-nil (take i xs) ∙ take_all i xs h) ∙ e
-
-pub behind_end : (b : ℕ) (xs : List ℕ) (i : ℕ) → length xs ≤ i → behind b (drop i xs) ≡ behind b xs → drop (length xs + 1) xs ≡ behind b xs
-behind_end b xs i h e = drop_all (length xs + 1) xs (omega arith) ∙ sym (at_drop_all (behind b) xs i h) ∙ e
-
--- a walk to the first b
-module _ (b : ℕ) (xs : List ℕ) (i : ℕ) (h : i < length xs) where
-  pub front_more : (get_or xs i 0 ≡ b → ⊥) → take (i + 1) xs ++ front b (drop (i + 1) xs) ≡ take i xs ++ front b (drop i xs)
-  front_more e =
-      let one = take_more xs i 0 h in
-      let left = at_drop_more (front b) xs i 0 h ∙ cond-false _ _ _ (ne_eqb _ b e) in
-      ap (λ l. l ++ front b (drop (i + 1) xs)) one ∙ append_assoc (take i xs) (get_or xs i 0 ∷ []) (front b (drop (i + 1) xs)) ∙ sym (ap (λ l. take i xs ++ l) left)
-
-  pub front_stops : get_or xs i 0 ≡ b → take i xs ++ front b (drop i xs) ≡ take i xs
-  front_stops e = ap (λ l. take i xs ++ l) (at_drop_more (front b) xs i 0 h ∙ cond-true _ _ _ (eq-eqb _ b e)) ∙ append-nil (take i xs)
-
-  pub behind_more : (get_or xs i 0 ≡ b → ⊥) → behind b (drop (i + 1) xs) ≡ behind b (drop i xs)
-  behind_more e = sym (at_drop_more (behind b) xs i 0 h ∙ cond-false _ _ _ (ne_eqb _ b e))
-
-  pub behind_stops : get_or xs i 0 ≡ b → behind b (drop i xs) ≡ drop (i + 1) xs
-  behind_stops e = at_drop_more (behind b) xs i 0 h ∙ cond-true _ _ _ (eq-eqb _ b e)
+pub trimmed_first : (xs : List ℕ) → trimmed xs ≡ drop (prefix_len (λ x. eqb x 32) xs) xs
+trimmed_first [] = refl
+trimmed_first (x ∷ xs) =
+    elim (eqb x 32) as (λ t. cond t (trimmed xs) (x ∷ xs) ≡ drop (cond t (1 + prefix_len (λ y. eqb y 32) xs) 0) (x ∷ xs))
+    [ true ↦ trimmed_first xs ∙ sym (ap (λ n. drop n (x ∷ xs)) (one-add _)) | false ↦ refl ]
 
 -- leading spaces part no words
 pub words_trimmed : (l : List ℕ) → words (trimmed l) ≡ words l
@@ -69,12 +53,11 @@ pub keep_filled : (w : List ℕ) (ws : List (List ℕ)) → 0 < length w → kee
 keep_filled [] ws h = absurd (omega arith)
 keep_filled (x ∷ xs) ws h = refl
 
--- a line whose first word is empty has no word
-pub words_none : (l : List ℕ) → word l ≡ [] → words l ≡ []
-words_none [] h = refl
-words_none (x ∷ xs) none =
+first_none : (l : List ℕ) → word l ≡ [] → words l ≡ []
+first_none [] h = refl
+first_none (x ∷ xs) none =
     cond_both (eqb x 32) (trimmed xs) (x ∷ xs) (λ l. front 32 l ≡ [] → words (x ∷ xs) ≡ [])
-    (λ e h. ap filled (cond-true _ _ _ e) ∙ words_none xs h)
+    (λ e h. ap filled (cond-true _ _ _ e) ∙ first_none xs h)
     (λ e h. let one : x ∷ front 32 xs ≡ [] = sym (cond-false (eqb x 32) [] (x ∷ front 32 xs) e) ∙ h in cc)
     none
 
@@ -84,8 +67,8 @@ word_some l w r e f h =
     let P : List ℕ → List ℕ → Type 0 = λ v t. words l ≡ keep v (words t) in
     subst (λ t. P w t) (sym f) (subst (λ v. P v (rest l)) (sym e) (words_first l)) ∙ keep_filled w (words r) h
 
-pub word_none : (l w : List ℕ) → w ≡ word l → length w ≡ 0 → word l ≡ []
-word_none l w e h = sym e ∙ nil_from_length w h
+pub words_none : (l w : List ℕ) → w ≡ word l → length w ≡ 0 → words l ≡ []
+words_none l w e h = first_none l (sym e ∙ nil_from_length w h)
 
 joined_onto : (x : ℕ) (ps : List (List ℕ)) → flat_map (λ w. w) (onto x ps) ≡ x ∷ flat_map (λ w. w) ps
 joined_onto x [] = refl

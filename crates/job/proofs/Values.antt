@@ -54,7 +54,7 @@ digits_all [] h = refl
 digits_all (c ∷ cs) h = and_from (digit c) (digits cs) (and_from _ _ (le-leb _ _ h.0.0) (le-leb _ _ h.0.1)) (digits_all cs h.1)
 
 written_digits : (w : List ℕ) → written w ≡ true → (0 < length w) × (digits w ≡ true)
-written_digits [] h = let z : ◌≡◌ {A = ℕ} 0 1 = cc in absurd (omega arith)
+written_digits [] h = absurd cc
 written_digits (c ∷ cs) h = (omega arith, h)
 
 digits_written : (w : List ℕ) → 0 < length w → digits w ≡ true → written w ≡ true
@@ -71,7 +71,7 @@ number_means limit w n =
     let q = written_digits w p.0 in
     let low = leb-true _ _ p.1 in
     record { some = q.0; decimal = all_digits w q.1; is = is; within = omega arith })
-    (λ e h. let z : ◌≡◌ {A = ℕ} 0 1 = cc in absurd (omega arith))
+    (λ e h. absurd cc)
 
 pub number_from : (limit : ℕ) (w : List ℕ) (n : ℕ) → Number limit w n → number limit w ≡ Some n
 number_from limit w n h =

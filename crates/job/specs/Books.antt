@@ -11,8 +11,11 @@
 -- held_in ws            the entries that ws begin with
 -- entries ws           the entries behind `with`, none where nothing is left
 -- sheets l, floor_of g  the values of a `Layers` and of a `Ground`
+-- held_as e            the value of a book's `Entry`
 use Rattle.std.specs.Prelude.{ℕ, Bool, true, false, cond, List, [], ◌∷◌, Some, None, Ok, Err, codes, Option, Result, ◌==◌}
 use Rattle.std.specs.Str.{bytes_eq}
+use Rattle.book.specs.declared.entry.Entry.{Entry}
+use Rattle.book.specs.Standing.{standing_number}
 use Rattle.job.specs.declared.command.Ground.{Ground}
 use Rattle.job.specs.declared.command.Ground.TheVariants.{Ledger, Card}
 use Rattle.job.specs.declared.command.Layers.{Layers}
@@ -119,3 +122,6 @@ sheets (Two first second) = listed (words first.now) ∷ listed (words second.no
 abbrev pub floor_of : Ground → Floor
 floor_of (Ledger n) = ledger n
 floor_of Card = card
+
+abbrev pub held_as : Entry → Held
+held_as e = held e.serial (standing_number e.standing) e.row

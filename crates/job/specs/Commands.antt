@@ -5,12 +5,13 @@
 -- saying k ws          the command of keyword k with the words ws
 -- spoken ws            what the words ws are read as
 -- reading line         what the line is read as
--- said c, heard r      the value of a `Command`, of a `Reading`
+-- asked d, said c      the value of a `Deed`, of a `Command`
+-- meant r, heard o     the value of a command that was read, and of what `read_line` gives
 use Rattle.std.specs.Prelude.{ℕ, cond, List, [], ◌∷◌, Some, None, Ok, Err, Option, Result, ◌==◌}
 use Rattle.job.specs.declared.command.Command.{Command}
 use Rattle.job.specs.declared.command.Command.TheVariants as commands
-use Rattle.job.specs.declared.command.Reading.{Reading}
-use Rattle.job.specs.declared.command.Reading.TheVariants as readings
+use Rattle.job.specs.declared.command.Deed.{Deed}
+use Rattle.job.specs.declared.command.Deed.TheVariants as deeds
 use Rattle.job.specs.declared.keyword.Keyword.{Keyword}
 use Rattle.job.specs.declared.keyword.Keyword.TheVariants.{Open, At, Principal, Statement, File, Strike, Book}
 use Rattle.job.specs.declared.unreadable.Unreadable.{Unreadable}
@@ -76,16 +77,22 @@ abbrev pub reading : List ℕ → Heard
 reading [] = silent
 reading (b ∷ bs) = cond (b == 35) silent (spoken (words (b ∷ bs)))
 
+abbrev pub asked : Deed → Said
+asked (deeds.Principal n) = principal n.form n.x n.y
+asked (deeds.Statement n) = statement n.form n.x n.y
+asked (deeds.File s t r) = files s t r
+asked (deeds.Strike s) = strikes s
+asked deeds.List = lists
+
 abbrev pub said : Command → Said
 said (commands.At g) = turns g
-said (commands.Principal f x y) = principal f x y
-said (commands.Statement f x y) = statement f x y
-said (commands.File s t r) = files s t r
-said (commands.Strike s) = strikes s
-said commands.Book = lists
 said (commands.Open o) = opens o.gate (sheets o.layers) (floor_of o.ground) (held_in (words o.entries.now))
+said (commands.Deed d) = asked d
 
-abbrev pub heard : Reading → Heard
-heard readings.Silent = silent
-heard (readings.Unreadable e) = unreadable e
-heard (readings.Command c) = command (said c)
+abbrev pub meant : Result Command Unreadable → Result Said Unreadable
+meant (Ok c) = Ok (said c)
+meant (Err e) = Err e
+
+abbrev pub heard : Option (Result Command Unreadable) → Heard
+heard None = silent
+heard (Some r) = answered (meant r)

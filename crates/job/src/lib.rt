@@ -13,8 +13,8 @@ mod reading;
 mod unreadable;
 mod words;
 
-pub use command::{Command, Ground, Layers, Opening, Reading};
+pub use command::{Command, Deed, Ground, Layers, Naming, Opening};
 pub use lines::next_line;
-pub use lists::{Holding, next_entry, next_serial};
+pub use lists::{next_entry, next_serial};
 pub use reading::read_line;
 pub use unreadable::Unreadable;

@@ -7,6 +7,7 @@ ghost use Rattle.job.specs.Lines.{lines, Whole};
 use crate::words::cut;
 
 // The first line of the job and what follows its newline, or nothing where the job is at its end.
+#[tactic(auto, using(crate::proofs::Splits::lines_whole, crate::proofs::Splits::line_first, crate::proofs::Splits::split_lacks))]
 pub fn next_line(job: &[u8]) -> Option<(&[u8], &[u8])>
     ensures first { MatchOption result (job.now ≡ []) (λ p. lines job.now ≡ p.0.now ∷ lines p.1.now) }
     ensures whole { Whole job.now }

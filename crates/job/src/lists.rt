@@ -1,69 +1,42 @@
 // Goes through the serials of a layer and the entries of a book, which stay text until they are wanted.
-ghost use Rattle.std.specs.Prelude.{◌≡◌, ◌≤◌, [], ◌∷◌, IfSome, Some, None, MatchOption};
-ghost use Rattle.job.specs.Books.{listed, held_in, held, entry};
+ghost use Rattle.std.specs.Prelude.{◌≡◌, [], ◌∷◌, Some, None, MatchOption};
+ghost use Rattle.job.specs.Books.{listed, held_in, held_as, entry};
 ghost use Rattle.job.specs.Words.{words};
 
 use crate::limits::{SMALL, STANDING};
 use crate::numbers::number;
 use crate::words::{cut, next_word};
-
-// An entry that a book holds already.
-#[derive(Clone, Copy)]
-pub struct Holding {
-    pub serial: u16,
-    pub standing: u8,
-    pub row: u16,
-}
+use book::entry::{Entry, Standing};
 
 // The first serial of the text and what follows it, or nothing where the text begins with no serial.
 pub fn next_serial(text: &[u8]) -> Option<(u16, &[u8])>
     ensures { MatchOption result (listed (words text.now) ≡ []) (λ p. listed (words text.now) ≡ p.0 ∷ listed (words p.1.now)) }
 {
-    match next_word(text) {
-        None => None,
-        Some((first, after)) => match number(first, SMALL) {
-            None => None,
-            Some(serial) => Some((serial as u16, after)),
-        },
-    }
+    let (first, after) = next_word(text)?;
+    let serial = number(first, SMALL)?;
+    Some((serial as u16, after))
 }
 
 // The entry that a word is: three numbers parted by colons, the middle one 1 or 2.
-pub(crate) fn read_entry(text: &[u8]) -> Option<Holding>
-    ensures answer { MatchOption result (entry text.now ≡ None) (λ h. entry text.now ≡ Some (held h.serial h.standing h.row)) }
-    ensures standing { IfSome result (λ h. (1 ≤ h.standing) × (h.standing ≤ 2)) }
+pub(crate) fn read_entry(text: &[u8]) -> Option<Entry>
+    ensures { MatchOption result (entry text.now ≡ None) (λ e. entry text.now ≡ Some (held_as e)) }
 {
     let (first, after) = cut(text, b':');
     let (second, third) = cut(after, b':');
-    let Some(serial) = number(first, SMALL) else {
-        return None;
-    };
-    let Some(standing) = number(second, STANDING) else {
-        return None;
-    };
-    let Some(row) = number(third, SMALL) else {
-        return None;
-    };
-    if standing == 0 {
-        return None;
-    }
-    Some(Holding {
+    let serial = number(first, SMALL)?;
+    let standing = number(second, STANDING)?;
+    let row = number(third, SMALL)?;
+    Some(Entry {
         serial: serial as u16,
-        standing: standing as u8,
+        standing: Standing::try_from(standing as u8).ok()?,
         row: row as u16,
     })
 }
 
 // The first entry of the text and what follows it, or nothing where the text begins with no entry.
-pub fn next_entry(text: &[u8]) -> Option<(Holding, &[u8])>
-    ensures answer { MatchOption result (held_in (words text.now) ≡ []) (λ p. held_in (words text.now) ≡ held p.0.serial p.0.standing p.0.row ∷ held_in (words p.1.now)) }
-    ensures standing { IfSome result (λ p. (1 ≤ p.0.standing) × (p.0.standing ≤ 2)) }
+pub fn next_entry(text: &[u8]) -> Option<(Entry, &[u8])>
+    ensures { MatchOption result (held_in (words text.now) ≡ []) (λ p. held_in (words text.now) ≡ held_as p.0 ∷ held_in (words p.1.now)) }
 {
-    match next_word(text) {
-        None => None,
-        Some((first, after)) => match read_entry(first) {
-            None => None,
-            Some(holding) => Some((holding, after)),
-        },
-    }
+    let (first, after) = next_word(text)?;
+    Some((read_entry(first)?, after))
 }

@@ -3,6 +3,7 @@ ghost use Rattle.std.specs.Prelude.{◌≡◌, ℕ, ◌≤◌, IfSome, Some};
 ghost use Rattle.job.specs.Numbers.{number, Number};
 
 // The value of the word, if it is a number of at most `limit`. A value that passes the limit ends the reading, so nothing wraps.
+// `str::parse` would take a sign too.
 pub(crate) fn number(text: &[u8], limit: u32) -> Option<u32>
     ensures value { result ≡ number limit text.now }
     ensures within { IfSome result (λ n. n ≤ limit) }

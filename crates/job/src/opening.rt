@@ -1,87 +1,71 @@
 // Reads what stands behind `open`: a gate number and the book to open the gate over.
-ghost use Rattle.std.specs.Prelude.{◌≡◌, true, false, None, Ok, Err, MatchResult};
+ghost use Rattle.std.specs.Prelude.{◌≡◌, None, Ok, Err, MatchOption, MatchResult};
 ghost use Rattle.job.specs.Books.{listed, behind_over, recalling, layer, layers, floor, all_held, held_in, entries, sheets, floor_of};
-ghost use Rattle.job.specs.Commands.{answered, heard, opening};
+ghost use Rattle.job.specs.Commands.{opening, said};
+ghost use Rattle.job.specs.declared.command.Command.TheVariants as commands;
 ghost use Rattle.job.specs.Operands.{part};
-ghost use Rattle.job.specs.Words.{rest, words};
+ghost use Rattle.job.specs.Words.{words};
 
-use crate::command::{Command, Ground, Layers, Opening, Reading};
-use crate::keyword::spells;
+use crate::command::{Ground, Layers, Opening};
 use crate::limits::{GATE, RECORDS, SMALL};
 use crate::lists::read_entry;
 use crate::numbers::number;
 use crate::operands::first_number;
 use crate::unreadable::Unreadable;
-use crate::words::{next_word, rest_of, word_of};
+use crate::words::{Words, next_word};
 
-// What follows the serials of a layer and the word `over` behind them.
+// What follows the serials of a layer and the word `over` behind them. What stands behind `over` is wanted, so no `for` over the words serves.
 fn past_over(text: &[u8]) -> Result<&[u8], Unreadable>
     ensures { MatchResult result (λ after. behind_over (words text.now) ≡ Ok (words after.now)) (λ e. behind_over (words text.now) ≡ Err e) }
 {
     let mut rest = text;
     while let Some((word, after)) = next_word(rest) {
-        if spells(word, b"over") {
+        if word == b"over".as_slice() {
             return Ok(after);
         }
-        let Some(_) = number(word, SMALL) else {
-            return Err(Unreadable::BadNumber);
-        };
+        number(word, SMALL).ok_or(Unreadable::BadNumber)?;
         rest = after;
     }
     Err(Unreadable::MissingWord)
 }
 
-// Whether the text begins with a layer.
-fn is_layer(text: &[u8]) -> bool
-    ensures no { result ≡ false → layer (words text.now) ≡ Ok None }
-    ensures yes { result ≡ true → layer (words text.now) ≡ recalling (listed (words (rest text.now))) (behind_over (words (rest text.now))) }
+// What follows the word `recall`, where the text begins with it.
+fn behind_recall(text: &[u8]) -> Option<&[u8]>
+    ensures { MatchOption result (layer (words text.now) ≡ Ok None) (λ after. layer (words text.now) ≡ recalling (listed (words after.now)) (behind_over (words after.now))) }
 {
-    let word = word_of(text);
-    if word.is_empty() {
-        return false;
+    match next_word(text)? {
+        (b"recall", after) => Some(after),
+        _ => None,
     }
-    spells(word, b"recall")
 }
 
 // The layers that the text begins with, two at most, and what follows them.
 fn read_layers(text: &[u8]) -> Result<(Layers<'_>, &[u8]), Unreadable>
     ensures { MatchResult result (λ p. layers (words text.now) ≡ Ok (part (sheets p.0) (words p.1.now))) (λ e. layers (words text.now) ≡ Err e) }
 {
-    if !is_layer(text) {
+    let Some(first) = behind_recall(text) else {
         return Ok((Layers::Bare, text));
-    }
-    let first = rest_of(text);
-    match past_over(first) {
-        Err(why) => Err(why),
-        Ok(below) => {
-            if !is_layer(below) {
-                return Ok((Layers::One(first), below));
-            }
-            let second = rest_of(below);
-            match past_over(second) {
-                Err(why) => Err(why),
-                Ok(lowest) => Ok((Layers::Two(first, second), lowest)),
-            }
-        }
-    }
+    };
+    let below = past_over(first)?;
+    let Some(second) = behind_recall(below) else {
+        return Ok((Layers::One(first), below));
+    };
+    let lowest = past_over(second)?;
+    Ok((Layers::Two(first, second), lowest))
 }
 
 // The lowest book, and what follows it.
-fn read_ground(rest: &[u8]) -> Result<(Ground, &[u8]), Unreadable>
-    ensures { MatchResult result (λ p. floor (words rest.now) ≡ Ok (part (floor_of p.0) (words p.1.now))) (λ e. floor (words rest.now) ≡ Err e) }
+fn read_ground(text: &[u8]) -> Result<(Ground, &[u8]), Unreadable>
+    ensures { MatchResult result (λ p. floor (words text.now) ≡ Ok (part (floor_of p.0) (words p.1.now))) (λ e. floor (words text.now) ≡ Err e) }
 {
-    let Some((word, after)) = next_word(rest) else {
-        return Err(Unreadable::MissingWord);
-    };
-    if spells(word, b"card") {
-        return Ok((Ground::Card, after));
-    }
-    if !spells(word, b"ledger") {
-        return Err(Unreadable::BadBook);
-    }
-    match first_number(after, RECORDS) {
-        Err(why) => Err(why),
-        Ok(records) => Ok((Ground::Ledger(records), rest_of(after))),
+    let (word, after) = next_word(text).ok_or(Unreadable::MissingWord)?;
+    match word {
+        b"card" => Ok((Ground::Card, after)),
+        b"ledger" => {
+            let (records, rest) = first_number(after, RECORDS)?;
+            Ok((Ground::Ledger(records), rest))
+        }
+        _ => Err(Unreadable::BadBook),
     }
 }
 
@@ -89,14 +73,7 @@ fn read_ground(rest: &[u8]) -> Result<(Ground, &[u8]), Unreadable>
 fn all_entries(text: &[u8]) -> bool
     ensures { result ≡ all_held (words text.now) }
 {
-    let mut rest = text;
-    while let Some((word, after)) = next_word(rest) {
-        let Some(_) = read_entry(word) else {
-            return false;
-        };
-        rest = after;
-    }
-    true
+    Words(text).all(|word| read_entry(word).is_some())
 }
 
 // The text of the entries behind `with`, a text without words where nothing is left.
@@ -106,38 +83,30 @@ fn read_entries(rest: &[u8]) -> Result<&[u8], Unreadable>
     let Some((word, text)) = next_word(rest) else {
         return Ok(rest);
     };
-    if !spells(word, b"with") {
+    if word != b"with".as_slice() {
         return Err(Unreadable::ExtraWord);
     }
-    let Some(_) = next_word(text) else {
+    if next_word(text).is_none() {
         return Err(Unreadable::MissingWord);
-    };
+    }
     if !all_entries(text) {
         return Err(Unreadable::BadEntry);
     }
     Ok(text)
 }
 
-// The command `open` with the gate and the book behind it.
-pub(crate) fn read_opening(rest: &[u8]) -> Reading<'_>
-    ensures { heard result ≡ answered (opening (words rest.now)) }
+// The gate and the book that stand behind `open`.
+pub(crate) fn read_opening(rest: &[u8]) -> Result<Opening<'_>, Unreadable>
+    ensures { MatchResult result (λ o. opening (words rest.now) ≡ Ok (said (commands.Open o))) (λ e. opening (words rest.now) ≡ Err e) }
 {
-    match first_number(rest, GATE) {
-        Err(why) => Reading::Unreadable(why),
-        Ok(gate) => match read_layers(rest_of(rest)) {
-            Err(why) => Reading::Unreadable(why),
-            Ok((layers, rest)) => match read_ground(rest) {
-                Err(why) => Reading::Unreadable(why),
-                Ok((ground, rest)) => match read_entries(rest) {
-                    Err(why) => Reading::Unreadable(why),
-                    Ok(entries) => Reading::Command(Command::Open(Opening {
-                        gate,
-                        layers,
-                        ground,
-                        entries,
-                    })),
-                },
-            },
-        },
-    }
+    let (gate, rest) = first_number(rest, GATE)?;
+    let (layers, rest) = read_layers(rest)?;
+    let (ground, rest) = read_ground(rest)?;
+    let entries = read_entries(rest)?;
+    Ok(Opening {
+        gate,
+        layers,
+        ground,
+        entries,
+    })
 }

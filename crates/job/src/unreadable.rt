@@ -11,20 +11,15 @@ pub enum Unreadable {
     BadEntry,
 }
 
-// The reason in words.
-fn reason(why: Unreadable) -> &'static str {
-    match why {
-        Unreadable::UnknownCommand => "no such command",
-        Unreadable::MissingWord => "a word is missing",
-        Unreadable::ExtraWord => "there is a word too many",
-        Unreadable::BadNumber => "not a number, or too large",
-        Unreadable::BadBook => "no such book",
-        Unreadable::BadEntry => "not an entry SERIAL:STANDING:ROW",
-    }
-}
-
 impl fmt::Display for Unreadable {
     fn fmt<W: fmt::Write>(&self, f: &mut fmt::Formatter<W>) -> fmt::Result {
-        f.write_str(reason(*self))
+        f.write_str(match self {
+            Unreadable::UnknownCommand => "no such command",
+            Unreadable::MissingWord => "a word is missing",
+            Unreadable::ExtraWord => "there is a word too many",
+            Unreadable::BadNumber => "not a number, or too large",
+            Unreadable::BadBook => "no such book",
+            Unreadable::BadEntry => "not an entry SERIAL:STANDING:ROW",
+        })
     }
 }

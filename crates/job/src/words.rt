@@ -1,32 +1,16 @@
 // Cuts a text at a byte, and a line into its words.
-ghost use Rattle.std.specs.Prelude.{◌≡◌, ◌+◌, ◌≤◌, [], ◌∷◌, length, take, drop, MatchOption, ◌≢◌};
+ghost use Rattle.std.specs.Prelude.{◌≡◌, [], ◌∷◌, MatchOption};
 ghost use Rattle.std.specs.List.{flat_map, AllByRecursion};
 ghost use Rattle.job.specs.Words.{front, behind, trimmed, word, rest, words, without, Proper};
-
-// Where the first `mark` stands in `text`, or the length of `text` where there is none.
-fn place_of(text: &[u8], mark: u8) -> usize
-    ensures within { result ≤ length text.now }
-    ensures before { take result text.now ≡ front mark text.now }
-    ensures after { drop (result + 1) text.now ≡ behind mark text.now }
-{
-    for (i, b) in text.iter().enumerate() {
-        if *b == mark {
-            return i;
-        }
-    }
-    text.len()
-}
 
 // What stands before the first `mark`, and what stands behind it.
 pub(crate) fn cut(text: &[u8], mark: u8) -> (&[u8], &[u8])
     ensures before { result.0.now ≡ front mark text.now }
     ensures after { result.1.now ≡ behind mark text.now }
 {
-    let end = place_of(text, mark);
-    if end < text.len() {
-        (&text[0..end], &text[end + 1..])
-    } else {
-        (text, &text[end..])
+    match text.iter().position(|&b| b == mark) {
+        Some(end) => (&text[..end], &text[end + 1..]),
+        None => (text, &[]),
     }
 }
 
@@ -34,15 +18,14 @@ pub(crate) fn cut(text: &[u8], mark: u8) -> (&[u8], &[u8])
 fn trim(text: &[u8]) -> &[u8]
     ensures { result.now ≡ trimmed text.now }
 {
-    for (i, b) in text.iter().enumerate() {
-        if *b != b' ' {
-            return &text[i..];
-        }
+    match text.iter().position(|&b| b != b' ') {
+        Some(start) => &text[start..],
+        None => &[],
     }
-    &text[text.len()..]
 }
 
 // The first word of the line and what follows it, or nothing where the line has no word.
+#[tactic(auto, using(crate::proofs::Splits::words_none, crate::proofs::Splits::word_some, crate::proofs::Splits::words_whole, crate::proofs::Splits::words_proper))]
 pub(crate) fn next_word(line: &[u8]) -> Option<(&[u8], &[u8])>
     ensures first { MatchOption result (words line.now ≡ []) (λ p. words line.now ≡ p.0.now ∷ words p.1.now) }
     ensures parts { MatchOption result (word line.now ≡ []) (λ p. (p.0.now ≡ word line.now) × (p.1.now ≡ rest line.now)) }
@@ -57,19 +40,23 @@ pub(crate) fn next_word(line: &[u8]) -> Option<(&[u8], &[u8])>
     }
 }
 
-// The first word of the line, empty where the line has none.
-pub(crate) fn word_of(line: &[u8]) -> &[u8]
-    ensures none { length result.now ≡ 0 → words line.now ≡ [] }
-    ensures some { (length result.now ≢ 0) → words line.now ≡ result.now ∷ words (rest line.now) }
-{
-    let (first, _) = cut(trim(line), b' ');
-    first
-}
+// The words of a line, in order.
+#[derive(Clone, Copy)]
+pub(crate) struct Words<'a>(pub(crate) &'a [u8]);
 
-// What follows the first word of the line.
-pub(crate) fn rest_of(line: &[u8]) -> &[u8]
-    ensures { result.now ≡ rest line.now }
-{
-    let (_, after) = cut(trim(line), b' ');
-    after
+impl<'a> Iterator for Words<'a> {
+    ghost use Rattle.std.specs.Iterator.{YieldsFirstRef, item_count};
+    ghost use Rattle.job.specs.Words.{words};
+
+    type Item = &'a [u8];
+
+    ghost next_gives = { YieldsFirstRef (λ s. words s.0.now) };
+
+    ghost remaining = { item_count (λ s. words s.0.now) };
+
+    fn next(&mut self) -> Option<&'a [u8]> {
+        let (word, after) = next_word(self.0)?;
+        self.0 = after;
+        Some(word)
+    }
 }

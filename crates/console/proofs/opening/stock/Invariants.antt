@@ -4,8 +4,8 @@ use Rattle.job.specs.Words.{words}
 use Rattle.console.specs.Openings.{stocked, shelf_means}
 use Rattle.console.proofs.opening.stock.Given as goal
 
-abbrev pub invariant-loop-holding : goal.invariant-loop-holding
-invariant-loop-holding l = stocked (shelf_means l.stocked) (held_in (words l.rest)) ≡ stocked (shelf_means l.initial.stocked) (held_in (words l.text))
+abbrev pub invariant-loop-entry : goal.invariant-loop-entry
+invariant-loop-entry l = stocked (shelf_means l.stocked) (held_in (words l.rest)) ≡ stocked (shelf_means l.initial.stocked) (held_in (words l.text))
 
-abbrev pub decreases-loop-holding : goal.decreases-loop-holding
-decreases-loop-holding l = length (held_in (words l.rest))
+abbrev pub decreases-loop-entry : goal.decreases-loop-entry
+decreases-loop-entry l = length (held_in (words l.rest))
