@@ -9,5 +9,5 @@ pub loop-entry-preserved : goal.loop-entry-preserved
 loop-entry-preserved c =
     let before = shelf_means c.loop-entry.stocked in
     stocked_filed before _ c.in-Some.entry (held_in (words c.in-Some.after.now)) (sym c.file.ensures.answer ∙ c.in_ok-file.was) c.file.ensures.after
-        ∙ ap (stocked before) (sym c.in-Some.ensures)
-        ∙ c.loop-entry.invariant
+    ∙ ap (stocked before) (sym c.in-Some.ensures)
+    ∙ c.loop-entry.invariant
