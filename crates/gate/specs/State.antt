@@ -6,6 +6,7 @@
 -- principal_call g f a b                 naming a principal: the answer
 -- principal_left g f a b                 the gate afterwards
 -- statement_call, statement_left         the same for a statement
+-- standing_numbered n                    rule for 1, saying for 2
 -- filing g serial standing row           what filing answers: denied 4, standing neither 1 nor 2; denied 5, row not named; then as the book answers
 -- filing_left g serial standing row      the gate afterwards
 -- striking g serial, striking_left       striking: as the book answers
@@ -18,8 +19,8 @@ use Rattle.terms.specs.Named.{rows_of}
 use Rattle.terms.specs.Written.{Rows}
 use Rattle.book.specs.declared.entry.Entry.{Entry}
 use Rattle.book.specs.declared.entry.Standing.{Standing}
-use Rattle.book.specs.Standing.{standing_numbered}
 use Rattle.book.specs.Meaning.{Meaning, means, file_answer, file_after, strike_answer, strike_after}
+pub use Rattle.book.specs.Standing.{standing_numbered}
 use Rattle.gate.specs.declared.gate.Gate.{Gate}
 
 pub record State : Type 0 where
