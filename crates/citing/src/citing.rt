@@ -12,7 +12,7 @@ use denials::denial::{Denial, Reason};
 use fitting::fitting::fitting;
 use rules::branch::{Fact, Link};
 use rules::line::{Line, Use};
-use rules::moves::{Move, Operand};
+use rules::moves::{Cited, Move, NextWorlds, Operand};
 use rules::rule::Rule;
 use rules::table::Shape;
 use terms::names::Names;
@@ -23,12 +23,7 @@ fn cite_fact(names: &Names, fact: Option<Fact>) -> Option<Operand>
     ensures { result ≡ cite_fact (rows_of names.now) fact }
 {
     match fact {
-        Some(fact) => Some(Operand::Fact(
-            fact.sign,
-            fact.row,
-            names.statement_row(fact.row),
-            fact.world,
-        )),
+        Some(fact) => Some(Operand::Fact(fact, names.statement_row(fact.row))),
         None => None,
     }
 }
@@ -38,13 +33,7 @@ fn cite_link(names: &Names, link: Option<Link>) -> Option<Operand>
     ensures { result ≡ cite_link (rows_of names.now) link }
 {
     match link {
-        Some(link) => Some(Operand::Link(
-            link.sign,
-            link.row,
-            names.principal_row(link.row),
-            link.from,
-            link.to,
-        )),
+        Some(link) => Some(Operand::Link(link, names.principal_row(link.row))),
         None => None,
     }
 }
@@ -147,5 +136,9 @@ pub fn move_of<R: Register>(
             place: number,
         });
     };
-    fitting(shape.rule, a, b, c, worlds, worlds + 1, number)
+    let next = NextWorlds {
+        first: worlds,
+        second: worlds + 1,
+    };
+    fitting(shape.rule, Cited { a, b, c }, next, number)
 }

@@ -42,12 +42,8 @@ abbrev pub shape_numbered : ℕ → Option Shape
 shape_numbered n = cond (n == 0) None (slice_get shapes (n - 1))
 
 abbrev pub idle : Use → ℕ → Bool
-idle Fact n = true
-idle Link n = true
-idle World n = true
-idle Row n = true
-idle Serial n = true
 idle Unused n = n == 0
+idle _ n = true
 
 abbrev pub if_idle : Line → Option Shape → Option Shape
 if_idle l None = None

@@ -1,10 +1,28 @@
 // What a branch of the tableau holds: facts and links, and the forks at which it can still go another way.
+ghost use Rattle.std.specs.Prelude.{◌≡◌};
+ghost use Rattle.rules.specs.Branches.{fact, link, other};
+
+use std::ops::Not;
 
 // Whether a fact or a link is asserted or denied.
 #[derive(Clone, Copy)]
 pub enum Sign {
     True,
     False,
+}
+
+// The other sign.
+impl Not for Sign {
+    type Output = Sign;
+
+    ghost not_gives = { λ sign result. result ≡ other sign };
+
+    fn not(self) -> Sign {
+        match self {
+            Sign::True => Sign::False,
+            Sign::False => Sign::True,
+        }
+    }
 }
 
 // A statement, by its row, that is true or false at a world.
@@ -22,6 +40,27 @@ pub struct Link {
     pub row: u16,
     pub from: u16,
     pub to: u16,
+}
+
+impl Fact {
+    pub fn new(sign: Sign, row: u16, world: u16) -> Fact
+        ensures answer { result ≡ fact sign row world }
+    {
+        Fact { sign, row, world }
+    }
+}
+
+impl Link {
+    pub fn new(sign: Sign, row: u16, from: u16, to: u16) -> Link
+        ensures answer { result ≡ link sign row «from» to }
+    {
+        Link {
+            sign,
+            row,
+            from,
+            to,
+        }
+    }
 }
 
 // One of the two alternatives of a fork.

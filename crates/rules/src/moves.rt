@@ -1,14 +1,14 @@
 // What the operands of a line cite, and what a line does to its branch.
-use crate::branch::{Fact, Link, Sign};
+use crate::branch::{Fact, Link};
 use terms::row::{PrincipalRow, StatementRow};
 
 // What an operand cites.
 #[derive(Clone, Copy)]
 pub enum Operand {
-    // a fact by its sign, the number and the row of its statement, and its world
-    Fact(Sign, u16, Option<StatementRow>, u16),
-    // a link by its sign, the number and the row of its principal, and its two worlds
-    Link(Sign, u16, Option<PrincipalRow>, u16, u16),
+    // a fact, and the row of its statement
+    Fact(Fact, Option<StatementRow>),
+    // a link, and the row of its principal
+    Link(Link, Option<PrincipalRow>),
     World(u16),
     // a principal's row with its number
     Row(u16, PrincipalRow),
@@ -16,6 +16,21 @@ pub enum Operand {
     // the statement row of a live entry
     Entry(u16),
     Unused,
+}
+
+// What the three operands of a line cite.
+#[derive(Clone, Copy)]
+pub struct Cited {
+    pub a: Operand,
+    pub b: Operand,
+    pub c: Operand,
+}
+
+// The numbers that the next two worlds of a branch would have.
+#[derive(Clone, Copy)]
+pub struct NextWorlds {
+    pub first: u16,
+    pub second: u16,
 }
 
 // What a line does: it adds facts and links, some of them at new worlds, or forks the branch, the first alternative going on and the second kept, or closes the branch.

@@ -1,6 +1,6 @@
 // The table of rules: for each code its rule, and what the operands A, B and C of its lines stand for.
-ghost use Rattle.std.specs.Prelude.{◌≡◌, true, false};
-ghost use Rattle.rules.specs.Shapes.{shape_numbered, shaped, places, takes, idle};
+ghost use Rattle.std.specs.Prelude.{◌≡◌};
+ghost use Rattle.rules.specs.Shapes.{shape_numbered, shaped, takes, idle};
 
 use crate::line::{Line, Use};
 use crate::rule::Rule;
@@ -21,10 +21,11 @@ pub struct Places {
     pub links: u16,
     pub worlds: u16,
     pub forks: u16,
+    // a flag and no enum: a line that closes takes no place, and the test for free places reads the four counts of it like those of any other
     pub closes: bool,
 }
 
-// The shapes of the codes 1 to 15.
+// The shapes of the codes 1 to 15, in their order.
 const SHAPES: [Shape; 15] = [
     Shape {
         rule: Rule::CiteRule,
@@ -132,49 +133,27 @@ fn is_idle(use_of: Use, operand: u16) -> bool
 fn shape_numbered(code: u8) -> Option<Shape>
     ensures { result ≡ shape_numbered code }
 {
-    if code == 0 || code > 15 {
-        None
-    } else {
-        Some(SHAPES[code as usize - 1])
-    }
+    let place = usize::from(code).checked_sub(1)?;
+    SHAPES.get(place).copied()
 }
 
 // The shape of a line, if its code is known and its unused operands are 0.
 pub fn shape_of(line: Line) -> Option<Shape>
     ensures answer { result ≡ shaped line }
 {
-    match shape_numbered(line.code) {
-        Some(shape)
-            if is_idle(shape.a, line.a) && is_idle(shape.b, line.b) && is_idle(shape.c, line.c) => {
-            Some(shape)
-        }
-        _ => None,
-    }
+    shape_numbered(line.code).filter(|shape| {
+        is_idle(shape.a, line.a) && is_idle(shape.b, line.b) && is_idle(shape.c, line.c)
+    })
 }
 
-fn adding(facts: u16, links: u16, worlds: u16, forks: u16) -> Places
-    ensures { result ≡ places facts links worlds forks false }
-{
-    Places {
-        facts,
-        links,
-        worlds,
-        forks,
-        closes: false,
-    }
-}
-
-fn closing() -> Places
-    ensures { result ≡ places 0 0 0 0 true }
-{
-    Places {
-        facts: 0,
-        links: 0,
-        worlds: 0,
-        forks: 0,
-        closes: true,
-    }
-}
+// No place at all.
+const NONE: Places = Places {
+    facts: 0,
+    links: 0,
+    worlds: 0,
+    forks: 0,
+    closes: false,
+};
 
 impl Rule {
     // What a line of this rule adds and takes, whatever it cites.
@@ -182,15 +161,41 @@ impl Rule {
         ensures answer { result ≡ takes self }
     {
         match self {
-            Rule::CiteRule | Rule::CiteSaying | Rule::Not | Rule::SaysTrue => adding(1, 0, 0, 0),
-            Rule::AndTrue => adding(2, 0, 0, 0),
-            Rule::AndFalse => adding(1, 0, 0, 1),
-            Rule::SaysFalse => adding(1, 1, 1, 0),
-            Rule::SpeaksForTrue | Rule::IntoBoth | Rule::IntoQuoting => adding(0, 1, 0, 0),
-            Rule::SpeaksForFalse => adding(0, 2, 2, 0),
-            Rule::BothLinked => adding(0, 1, 0, 1),
-            Rule::QuotingLinked => adding(0, 2, 1, 0),
-            Rule::FactsClash | Rule::LinksClash => closing(),
+            Rule::CiteRule | Rule::CiteSaying | Rule::Not | Rule::SaysTrue => {
+                Places { facts: 1, ..NONE }
+            }
+            Rule::AndTrue => Places { facts: 2, ..NONE },
+            Rule::AndFalse => Places {
+                facts: 1,
+                forks: 1,
+                ..NONE
+            },
+            Rule::SaysFalse => Places {
+                facts: 1,
+                links: 1,
+                worlds: 1,
+                ..NONE
+            },
+            Rule::SpeaksForTrue | Rule::IntoBoth | Rule::IntoQuoting => Places { links: 1, ..NONE },
+            Rule::SpeaksForFalse => Places {
+                links: 2,
+                worlds: 2,
+                ..NONE
+            },
+            Rule::BothLinked => Places {
+                links: 1,
+                forks: 1,
+                ..NONE
+            },
+            Rule::QuotingLinked => Places {
+                links: 2,
+                worlds: 1,
+                ..NONE
+            },
+            Rule::FactsClash | Rule::LinksClash => Places {
+                closes: true,
+                ..NONE
+            },
         }
     }
 }

@@ -2,6 +2,7 @@
 use Rattle.std.proofs.Common.{◌≡◌, ℕ, zero, suc, ◌+◌, ◌*◌, ◌<◌, ◌≤◌, Bool, true, false, cond, ◌&&◌, eqb, ltb, leb, List, [], ◌∷◌, length, Some, None, Ok, Err, Result, sym, refl, ap, ◌∙◌, subst, arith}
 use Rattle.std.specs.List.{slice_get}
 use Rattle.std.proofs.lemmas.Bool.{and_parts, and_from, leb-true, le-leb, ltb-true, lt-ltb, eqb-true, eq-eqb, cond-true, cond-false}
+use Rattle.std.proofs.lemmas.Option.{same_Some}
 use Rattle.denials.specs.declared.denial.Denial.{Denial}
 use Rattle.denials.specs.Denials.{denied}
 use Rattle.files.specs.declared.head.Head.{Head}
@@ -20,7 +21,7 @@ use Rattle.soundness.specs.Walking.{Limits, Held, Within, ForksFit, Roomy, sizes
 use Rattle.soundness.specs.ProofFiles.{line_at, lines_from, lines_passed, Reading, proof_read, walked, Keeps}
 use Rattle.soundness.specs.Laws.{PassesExactly}
 use Rattle.soundness.proofs.Allowed.{allowed_walks}
-use Rattle.soundness.proofs.Inversions.{some_same, ok_same, err_ok, on_some, further_ok, cond_ok}
+use Rattle.soundness.proofs.Inversions.{on_some, further_ok, cond_ok}
 use Rattle.soundness.proofs.Rooms.{room_parts, room_from, fine_after, room_before}
 use Rattle.soundness.proofs.Walked.{walked_allows}
 
@@ -28,7 +29,7 @@ use Rattle.soundness.proofs.Walked.{walked_allows}
 pub takes_up : (g : Given) (b : Branch) (l : Line) (s : Shape) (m : Move) (n : ℕ) → shaped l ≡ Some s → line_move g b s l n ≡ Ok m → takes s.rule ≡ sizes (effect m)
 takes_up g b l s m n shapes moves =
     let w = allowed_walks g b l (effect m) n (walked_allows g b l s m n shapes moves) in
-    let shape : w.shape ≡ s = some_same _ _ (sym w.shaped_so ∙ shapes) in
+    let shape : w.shape ≡ s = same_Some _ _ (sym w.shaped_so ∙ shapes) in
     ap (λ t. takes t.rule) (sym shape) ∙ w.takes_up
 
 -- what walking a line answers, stage by stage
@@ -86,8 +87,8 @@ module _ (lim : Limits) (g : Given) where
 
   pub lines_passing : (ls : List Line) (p : Progress) (n : ℕ) → Within lim p → Roomy lim p → lines_walked lim g n p ls ≡ Ok tt → Completes g (Within lim) p ls
   lines_passing [] complete n within room e = tt
-  lines_passing [] (going b fs) n within room e = err_ok (denied 26 n) tt e
-  lines_passing (l ∷ ls) complete n within room e = err_ok (denied 20 (n + 1)) tt e
+  lines_passing [] (going b fs) n within room e = cc
+  lines_passing (l ∷ ls) complete n within room e = cc
   lines_passing (l ∷ ls) (going b fs) n within room e =
       let p = further_ok (line_walked lim g b fs l (n + 1)) _ tt e in
       let a = line_passed lim g b fs l (n + 1) within p.0 room p.1.0 in
@@ -101,8 +102,8 @@ length_lines bytes i zero = refl
 length_lines bytes i (suc n) = ap suc (length_lines bytes (i + 1) n)
 
 lines_each : (bytes : List ℕ) (i n k : ℕ) (l : Line) → slice_get (lines_from bytes i n) k ≡ Some l → line_at bytes (i + k) ≡ l
-lines_each bytes i zero k l e = let z : ◌≡◌ {A = ℕ} 0 1 = cc in absurd (omega arith)
-lines_each bytes i (suc n) zero l e = ap (line_at bytes) (omega arith) ∙ some_same _ _ e
+lines_each bytes i zero k l e = cc
+lines_each bytes i (suc n) zero l e = ap (line_at bytes) (omega arith) ∙ same_Some _ _ e
 lines_each bytes i (suc n) (suc k) l e = ap (line_at bytes) (omega arith) ∙ lines_each bytes (i + 1) n k l e
 
 lines_are : (bytes : List ℕ) (i : ℕ) (ls : List Line) → ((k : ℕ) (l : Line) → slice_get ls k ≡ Some l → line_at bytes (i + k) ≡ l) → lines_from bytes i (length ls) ≡ ls
@@ -117,7 +118,7 @@ among_one k e = go (eqb 1 k) refl e
   where
     go : (b : Bool) → eqb 1 k ≡ b → cond b true false ≡ true → k ≡ 1
     go true is h = sym (eqb-true 1 k is)
-    go false is h = let z : ◌≡◌ {A = ℕ} 0 1 = cc in absurd (omega arith)
+    go false is h = cc
 
 -- what is read off a proof file that is laid out right
 record Read (most named : ℕ) (bytes : List ℕ) (p : Reading) : Type 0 where
@@ -133,13 +134,13 @@ read_so most named bytes p e =
     let row = further_ok (request_named named h.0) _ p h.1.1 in
     let count = further_ok (count_within most h.0) _ p row.1.1 in
     let long = further_ok (long_as (10 + 7 * count.0) bytes) _ p count.1.1 in
-    let is = ok_same (record { request = row.0; lines = count.0 }) p long.1.1 in
+    let is : record { request = row.0; lines = count.0 } ≡ p = (let same = long.1.1 in cc) in
     let below = cond_ok (ltb h.0.request named) (Ok h.0.request) (denied 17 6) row.0 row.1.0 in
     let within = cond_ok (leb 1 h.0.count && leb h.0.count most) (Ok h.0.count) (denied 18 8) count.0 count.1.0 in
     let sized = cond_ok (eqb (length bytes) (10 + 7 * count.0)) (Ok tt) (denied 19 10) long.0 long.1.0 in
     let head = (head_exactly (1 ∷ []) bytes h.0).0 h.1.0 in
-    let request : h.0.request ≡ p.request = ok_same _ _ below.1 ∙ ap (λ q. q.request) is in
-    let lines : h.0.count ≡ p.lines = ok_same _ _ within.1 ∙ ap (λ q. q.lines) is in
+    let request : h.0.request ≡ p.request = (let same = below.1 in cc) ∙ ap (λ q. q.request) is in
+    let lines : h.0.count ≡ p.lines = (let same = within.1 in cc) ∙ ap (λ q. q.lines) is in
     let range = and_parts (leb 1 h.0.count) (leb h.0.count most) within.0 in
     record {
       headed = subst (λ k. Headed k p.request p.lines bytes) (among_one h.0.kind head.0) (subst (λ q. Headed h.0.kind q p.lines bytes) request (subst (λ c. Headed h.0.kind h.0.request c bytes) lines head.1));
@@ -179,7 +180,7 @@ passes_exactly lim g bytes r some_world = (keeps, passes)
         let read = read_so lim.lines named bytes p found.1.0 in
         let room = cond_ok (leb 1 lim.facts) _ (denied 25 0) r found.1.1 in
         let ran = further_ok (lines_walked lim g 0 (going (start p.request) []) (lines_from bytes 0 p.lines)) _ r room.1 in
-        let request : p.request ≡ r = ok_same _ _ ran.1.1 in
+        let request : p.request ≡ r = (let same = ran.1.1 in cc) in
         let lines = lines_from bytes 0 p.lines in
         let size : length lines ≡ p.lines = length_lines bytes 0 p.lines in
         let fits = starts (leb-true 1 lim.facts room.0) in

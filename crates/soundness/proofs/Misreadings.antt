@@ -5,6 +5,7 @@
 use Rattle.std.proofs.Common.{◌≡◌, ℕ, true, false, eqb, List, [], ◌∷◌, Some, refl, subst, subst₂, inr, zero-le, arith}
 use Rattle.std.specs.List.{AllByRecursion}
 use Rattle.std.proofs.lemmas.Bool.{cond_both, false≢true}
+use Rattle.std.proofs.lemmas.Option.{none-some, same_Some}
 use Rattle.terms.specs.Laws.{SoundRows}
 use Rattle.terms.specs.Truth.{Structure, Holds, Finite, structure}
 use Rattle.terms.specs.Written.{Statement, statement_written}
@@ -18,7 +19,6 @@ use Rattle.soundness.specs.Follows.{RulesHold, SayingsHold}
 use Rattle.soundness.specs.Given.{Given, Live}
 use Rattle.soundness.specs.Misreadings.{tin, entry, filed, tin_with, NeverProved, OneIsNotBoth, NotTurnedRound, AtTheStartOnly, ClosedIsGone}
 use Rattle.soundness.specs.Walking.{Within}
-use Rattle.soundness.proofs.Inversions.{none_some, some_same}
 use Rattle.soundness.proofs.Soundness.{keeps_follows_in}
 use Rattle.soundness.proofs.Truths.{sentence, named_sentence}
 
@@ -34,9 +34,9 @@ none_sound =
       statements_within = omega arith;
       principals_distinct = λ i j h. omega arith;
       statements_distinct = λ i j h. omega arith;
-      principals_earlier = λ n r e. none_some r e;
-      statements_earlier = λ n r e. none_some r e;
-      named = λ n r e. none_some r e;
+      principals_earlier = λ n r e. absurd (none-some r e);
+      statements_earlier = λ n r e. absurd (none-some r e);
+      named = λ n r e. absurd (none-some r e);
     }
 
 -- naming the rows one after another
@@ -54,10 +54,10 @@ tin_sound =
 
 -- what is said of each entry is said of what is found under a serial
 filed_all : (P : Entry → Type 0) (es : List Entry) → AllByRecursion P es → (serial : ℕ) (e : Entry) → filed es serial ≡ Some e → P e
-filed_all P [] all serial e found = none_some e found
+filed_all P [] all serial e found = cc
 filed_all P (x ∷ xs) all serial e found =
     cond_both (eqb serial x.serial) (Some x) (filed xs serial) (λ o. o ≡ Some e → P e)
-    (λ _ is. subst P (some_same x e is) all.0)
+    (λ _ is. subst P (same_Some x e is) all.0)
     (λ _. filed_all P xs all.1 serial e)
     found
 

@@ -8,7 +8,6 @@ use Rattle.rules.specs.declared.rule.Rule.{Rule}
 use Rattle.rules.specs.declared.rule.Rule.TheVariants.{CiteRule, CiteSaying, Not, AndTrue, AndFalse, SaysTrue, SaysFalse, SpeaksForTrue, SpeaksForFalse, BothLinked, QuotingLinked, IntoBoth, IntoQuoting, FactsClash, LinksClash}
 use Rattle.rules.specs.declared.table.Shape.{Shape}
 use Rattle.rules.specs.Shapes.{shape, shapes, shape_numbered, idle, if_idle, shaped}
-use Rattle.soundness.proofs.Inversions.{none_some}
 
 abbrev pub code : Rule → ℕ
 code CiteRule = 1
@@ -66,7 +65,7 @@ numbered (suc (suc (suc (suc (suc (suc (suc (suc (suc (suc (suc zero))))))))))) 
 numbered (suc (suc (suc (suc (suc (suc (suc (suc (suc (suc (suc (suc zero)))))))))))) s e = known IntoQuoting s refl e
 numbered (suc (suc (suc (suc (suc (suc (suc (suc (suc (suc (suc (suc (suc zero))))))))))))) s e = known FactsClash s refl e
 numbered (suc (suc (suc (suc (suc (suc (suc (suc (suc (suc (suc (suc (suc (suc zero)))))))))))))) s e = known LinksClash s refl e
-numbered (suc (suc (suc (suc (suc (suc (suc (suc (suc (suc (suc (suc (suc (suc (suc i))))))))))))))) s e = none_some s e
+numbered (suc (suc (suc (suc (suc (suc (suc (suc (suc (suc (suc (suc (suc (suc (suc i))))))))))))))) s e = cc
 
 pub record Shaped (l : Line) (s : Shape) : Type 0 where
   pub coded : l.code ≡ code s.rule
@@ -76,18 +75,18 @@ pub record Shaped (l : Line) (s : Shape) : Type 0 where
   pub c_idle : idle s.c l.c ≡ true
 
 idle_some : (l : Line) (o : Option Shape) (s : Shape) → if_idle l o ≡ Some s → (o ≡ Some s) × ((idle s.a l.a && (idle s.b l.b && idle s.c l.c)) ≡ true)
-idle_some l None s e = none_some s e
+idle_some l None s e = cc
 idle_some l (Some r) s e = go (idle r.a l.a && (idle r.b l.b && idle r.c l.c)) refl e
   where
     go : (fit : Bool) → (idle r.a l.a && (idle r.b l.b && idle r.c l.c)) ≡ fit → cond fit (Some r) None ≡ Some s → (Some r ≡ Some s) × ((idle s.a l.a && (idle s.b l.b && idle s.c l.c)) ≡ true)
     go true h found = let is : r ≡ s = cc in (found, sym (ap (λ t. idle t.a l.a && (idle t.b l.b && idle t.c l.c)) is) ∙ h)
-    go false h found = none_some s found
+    go false h found = cc
 
 shape_found : (n : ℕ) (s : Shape) → shape_numbered n ≡ Some s → (n ≡ code s.rule) × (s ≡ shape_of s.rule)
 shape_found n s e = go (eqb n 0) refl e
   where
     go : (none : Bool) → eqb n 0 ≡ none → cond none None (slice_get shapes (n - 1)) ≡ Some s → (n ≡ code s.rule) × (s ≡ shape_of s.rule)
-    go true h found = none_some s found
+    go true h found = cc
     go false h found = let at = numbered (n - 1) s found in (omega (arith, eqb-false n 0 h, at.0), at.1)
 
 pub shaped_so : (l : Line) (s : Shape) → shaped l ≡ Some s → Shaped l s

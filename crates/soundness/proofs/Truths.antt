@@ -9,15 +9,13 @@
 -- Signed sign A              A, or that A fails
 -- FactTrue g M ρ f          the fact f is right in M, where ρ says which world each number stands for
 -- LinkTrue g M ρ l          the link l is right in M
-use Rattle.std.proofs.Common.{◌≡◌, ℕ, ◌<◌, List, length, get_or, Some, arith}
-use Rattle.std.specs.List.{slice_get}
-use Rattle.std.proofs.lemmas.Option.{slice_get-get_or}
+use Rattle.std.proofs.Common.{◌≡◌, ℕ, ◌<◌, List, length, Some, arith}
+use Rattle.std.proofs.lemmas.Option.{slice_get-get_or, get_or_from_slice_get}
 use Rattle.terms.specs.declared.row.PrincipalRow.{PrincipalRow}
 use Rattle.terms.specs.declared.row.StatementRow.{StatementRow}
 use Rattle.terms.specs.Laws.{SoundRows}
 use Rattle.terms.specs.Truth.{Structure, Pair, Holds}
 use Rattle.terms.specs.Written.{Principal, atom, Statement, request, principal_at, statement_at, principal_of, statement_of, principals_written, statements_written, statement_written}
-use Rattle.terms.proofs.Nths.{nth_below}
 use Rattle.terms.proofs.Writing.{length_written, principal_row_writes, statement_row_writes}
 use Rattle.rules.specs.declared.branch.Fact.{Fact}
 use Rattle.rules.specs.declared.branch.Link.{Link}
@@ -68,15 +66,12 @@ pub named_sentence : (g : Given) (n : ℕ) → n < length g.rows.statements → 
 named_sentence g n h =
     slice_get-get_or (statements g) n (request 0) (omega (arith, length_written (statement_of (principals g)) g.rows.statements))
 
-nth_value : {X : Type 0} (xs : List X) (n : ℕ) (x d : X) → slice_get xs n ≡ Some x → get_or xs n d ≡ x
-nth_value xs n x d e = let h = slice_get-get_or xs n d (nth_below xs n x e) in cc
-
 -- a named row says what its parts make of it
 module _ (g : Given) (sound : SoundRows g.rows) where
   pub sentence_is : (n : ℕ) (r : StatementRow) → StatementIs g n r → sentence g n ≡ sentence_by g r
   sentence_is n r e =
-      nth_value (statements g) n (sentence_by g r) (request 0) (statement_row_writes (principals g) g.rows.statements sound.statements_earlier n r e)
+      get_or_from_slice_get (statements g) n (sentence_by g r) (request 0) (statement_row_writes (principals g) g.rows.statements sound.statements_earlier n r e)
 
   pub principal_is : (n : ℕ) (r : PrincipalRow) → PrincipalIs g n r → principal g n ≡ principal_by g r
   principal_is n r e =
-      nth_value (principals g) n (principal_by g r) (atom 0) (principal_row_writes g.rows.principals sound.principals_earlier n r e)
+      get_or_from_slice_get (principals g) n (principal_by g r) (atom 0) (principal_row_writes g.rows.principals sound.principals_earlier n r e)

@@ -91,11 +91,11 @@ further (Ok x) k = k x
 
 abbrev pub cite_fact : Rows → Option Fact → Option Operand
 cite_fact t None = None
-cite_fact t (Some f) = Some (operands.Fact f.sign f.row (slice_get t.statements f.row) f.world)
+cite_fact t (Some f) = Some (operands.Fact f (slice_get t.statements f.row))
 
 abbrev pub cite_link : Rows → Option Link → Option Operand
 cite_link t None = None
-cite_link t (Some l) = Some (operands.Link l.sign l.row (slice_get t.principals l.row) l.from l.to)
+cite_link t (Some l) = Some (operands.Link l (slice_get t.principals l.row))
 
 abbrev pub cite_row : ℕ → Option PrincipalRow → Option Operand
 cite_row n None = None
@@ -112,22 +112,8 @@ operand t b uses.Unused n = Some operands.Unused
 -- code 1 cites rules and code 2 sayings
 abbrev pub cites : Code → Standing → Bool
 cites codes.CiteRule Rule = true
-cites codes.CiteRule Saying = false
-cites codes.CiteSaying Rule = false
 cites codes.CiteSaying Saying = true
-cites codes.Not s = false
-cites codes.AndTrue s = false
-cites codes.AndFalse s = false
-cites codes.SaysTrue s = false
-cites codes.SaysFalse s = false
-cites codes.SpeaksForTrue s = false
-cites codes.SpeaksForFalse s = false
-cites codes.BothLinked s = false
-cites codes.QuotingLinked s = false
-cites codes.IntoBoth s = false
-cites codes.IntoQuoting s = false
-cites codes.FactsClash s = false
-cites codes.LinksClash s = false
+cites _ _ = false
 
 abbrev pub cite_entry : Rows → Code → Option Entry → Option Operand
 cite_entry t rule None = None
@@ -135,13 +121,8 @@ cite_entry t rule (Some e) =
     cond (cites rule e.standing && is_some (slice_get t.statements e.row)) (Some (operands.Entry e.row)) None
 
 abbrev pub cited : Given → Code → Operand → Option Operand
-cited g rule (operands.Fact s n r w) = Some (operands.Fact s n r w)
-cited g rule (operands.Link s n r w v) = Some (operands.Link s n r w v)
-cited g rule (operands.World w) = Some (operands.World w)
-cited g rule (operands.Row n r) = Some (operands.Row n r)
 cited g rule (operands.Serial n) = cite_entry g.rows rule (g.live n)
-cited g rule (operands.Entry n) = Some (operands.Entry n)
-cited g rule operands.Unused = Some operands.Unused
+cited g rule o = Some o
 
 abbrev pub line_move : Given → Branch → Shape → Line → ℕ → Result Move Denial
 line_move g b s l n =
