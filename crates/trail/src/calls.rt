@@ -62,3 +62,18 @@ impl<'a, T: Blank> Trail<'a, T> {
         }
     }
 }
+
+// An empty trail without places.
+impl<'a, T: Blank> Default for Trail<'a, T> {
+    ghost use Rattle.std.specs.Prelude.{◌≡◌, []};
+    ghost use Rattle.trail.specs.Trails.{entries_of};
+
+    ghost is_default = { λ t. entries_of t ≡ [] };
+
+    fn default() -> Trail<'a, T> {
+        Trail {
+            places: &mut [],
+            len: 0,
+        }
+    }
+}
