@@ -20,7 +20,7 @@ fn fits_in(places: Places, facts: usize, links: usize, forks: usize, worlds: u16
         && places.forks as usize <= forks
 }
 
-impl<'a> Tableau<'a> {
+impl Tableau<'_, '_, '_> {
     ghost use Rattle.std.specs.Prelude.{◌≡◌, false};
     ghost use Rattle.rules.specs.Branches.{closed, moved, forks as forking};
     ghost use Rattle.rules.specs.Fits.{effect};

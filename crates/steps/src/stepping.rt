@@ -6,7 +6,7 @@ use denials::denial::{Denial, Reason};
 use rules::line::Line;
 use rules::table::shape_of;
 
-impl<'a> Tableau<'a> {
+impl Tableau<'_, '_, '_> {
     ghost use Rattle.std.specs.Prelude.{◌≡◌, Ok, OnErr};
     ghost use Rattle.soundness.specs.Walking.{further};
     ghost use Rattle.citing.specs.Rests.{given_by};

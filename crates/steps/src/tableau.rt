@@ -8,29 +8,37 @@ use trail::trail::Trail;
 
 // The branch that is walked, the forks that are still to be taken the other way, and whether every branch is closed. Each fork has a place for the alternative that it keeps.
 #[derive(Drop)]
-pub struct Tableau<'a> {
-    pub branch: OpenBranch<'a>,
-    pub forks: Trail<'a, Fork>,
+pub struct Tableau<'f, 'l, 'k> {
+    pub branch: OpenBranch<'f, 'l>,
+    pub forks: Trail<'k, Fork>,
     pub complete: bool,
     ghost fit: { ForksFit (limits_of branch forks) (forks_of forks) } by { fits_once (limits_of branch forks) (forks_of forks) },
 }
 
-impl<'a> Tableau<'a> {
-    ghost use Rattle.std.specs.Prelude.{◌≡◌, []};
-    ghost use Rattle.trail.specs.Trails.{SamePlaces};
-    ghost use Rattle.rules.specs.Branches.{branch, going};
-    ghost use Rattle.steps.specs.Tableaux.{progress};
+impl<'f, 'l, 'k> Tableau<'f, 'l, 'k> {
+    ghost use Rattle.std.specs.Prelude.{◌≡◌, false, []};
+    ghost use Rattle.trail.specs.Trails.{entries_of};
 
-    // One world, and nothing in the tables. It blanks every place of them.
-    pub fn new(facts: &'a mut [Fact], links: &'a mut [Link], forks: &'a mut [Fork]) -> Tableau<'a>
-        ensures empty { progress result ≡ going (branch [] [] 1) [] }
-        ensures fact_places { SamePlaces facts.entry result.branch.facts.places }
-        ensures link_places { SamePlaces links.entry result.branch.links.places }
-        ensures fork_places { SamePlaces forks.entry result.forks.places }
+    // A branch with one world and what is on the trails, and no fork.
+    pub fn new(
+        facts: Trail<'f, Fact>,
+        links: Trail<'l, Link>,
+        forks: Trail<'k, Fork>,
+    ) -> Tableau<'f, 'l, 'k>
+        requires { entries_of forks ≡ [] }
+        ensures facts { result.branch.facts ≡ facts.entry }
+        ensures links { result.branch.links ≡ links.entry }
+        ensures forks { result.forks ≡ forks.entry }
+        ensures worlds { result.branch.worlds ≡ 1 }
+        ensures open { result.complete ≡ false }
     {
         Tableau {
-            branch: OpenBranch::new(facts, links),
-            forks: Trail::new(forks),
+            branch: OpenBranch {
+                facts,
+                links,
+                worlds: 1,
+            },
+            forks,
             complete: false,
         }
     }
