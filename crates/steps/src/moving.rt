@@ -1,7 +1,7 @@
 // Doing a move: adding to the branch, forking it, or closing it and going back to the latest fork.
 ghost use Rattle.std.specs.Prelude.{◌≡◌, ◌+◌, ◌&&◌, nat_le};
 
-use crate::places::{add, add_side, add_two, go_back, latest};
+use crate::adding::{add, add_side, add_two, go_back, latest};
 use crate::tableau::Tableau;
 use rules::branch::{Fork, Side};
 use rules::moves::Move;

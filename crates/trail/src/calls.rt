@@ -45,6 +45,7 @@ impl<'a, T: Blank> Trail<'a, T> {
         if len >= counting(self.places) {
             return Err(entry);
         }
+        // The count goes first: what the type keeps has to hold at each write through the lent slice.
         self.len = len + 1;
         write(self.places, len, entry);
         Ok(())

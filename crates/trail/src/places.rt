@@ -42,6 +42,7 @@ pub(crate) fn write<T: Copy>(places: &mut [T], at: usize, entry: T)
 }
 
 // Blanks the places from `from` on, before `to`.
+#[tactic(auto, using(std::proofs::lemmas::List::places, std::proofs::lemmas::Slice::overwrites))]
 pub(crate) fn clear<T: Blank>(places: &mut [T], from: usize, to: usize)
     requires { (from ≤ to) × (to ≤ length places.old) }
     ensures { Cleared T.Blank.blank places.old from to places.new }

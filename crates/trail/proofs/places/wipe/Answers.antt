@@ -1,5 +1,5 @@
 use Rattle.std.proofs.Common.{rules}
-use Rattle.trail.proofs.Clearing.{filled}
+use Rattle.trail.proofs.Filling.{filled}
 use Rattle.trail.proofs.places.wipe.Goals as goal
 
 pub returns : goal.returns

@@ -42,6 +42,7 @@ pub(crate) fn add_side(branch: &mut OpenBranch, side: Side)
 }
 
 // Takes the latest fork off.
+#[tactic(auto, using(crate::proofs::Forks::latest_of))]
 pub(crate) fn latest(forks: &mut Trail<Fork>) -> Option<Fork>
     ensures answer { MatchOption result ((forks_of forks.old ≡ []) × (forks_of forks.new ≡ [])) (λ f. forks_of forks.old ≡ f ∷ forks_of forks.new) }
     ensures places { SamePlaces forks.old.places forks.new.places }
