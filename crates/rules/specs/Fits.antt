@@ -5,7 +5,8 @@
 -- if_true s x, if_false s x      x, if the sign is true, or false
 -- fits rule a b c v u            what a line of the rule does with what its operands cite, where the next two worlds would be v and u; nothing if the needs of the rule do not fit
 -- effect m                       the move m as an effect on a branch
-use Rattle.std.specs.Prelude.{ℕ, Bool, cond, ◌&&◌, ◌||◌, [], ◌∷◌, Some, None, Option, ◌==◌}
+use Rattle.std.specs.Bool.{then_some}
+use Rattle.std.specs.Prelude.{ℕ, ◌&&◌, ◌||◌, [], ◌∷◌, Some, None, Option, ◌==◌}
 use Rattle.terms.specs.declared.row.PrincipalRow.{PrincipalRow}
 use Rattle.terms.specs.declared.row.PrincipalRow.TheVariants.{Both, Quoting}
 use Rattle.terms.specs.declared.row.StatementRow.{StatementRow}
@@ -75,9 +76,6 @@ abbrev pub if_false : {X : Type 0} → Sign → Option X → Option X
 if_false True x = None
 if_false False x = x
 
-abbrev pub if : {X : Type 0} → Bool → X → Option X
-if b x = cond b (Some x) None
-
 -- a line that cites a fact f first, whose statement row is r
 abbrev pub fits_fact : Rule → Fact → Option StatementRow → Operand → ℕ → ℕ → Option Move
 fits_fact rules.Not f r b v u = as_not r (λ s. Some (AddFact (fact (other f.sign) s f.world)))
@@ -86,15 +84,15 @@ fits_fact rules.AndTrue f r b v u =
 fits_fact rules.AndFalse f r b v u =
     if_false f.sign (as_and r (λ s t. Some (ForkFacts (fact False s f.world) (fact False t f.world))))
 fits_fact rules.SaysTrue f r b v u =
-    if_true f.sign (as_says r (λ p s. as_link b (λ l _. if_true l.sign (if (l.row == p && l.from == f.world) (AddFact (fact True s l.to))))))
+    if_true f.sign (as_says r (λ p s. as_link b (λ l _. if_true l.sign (then_some (l.row == p && l.from == f.world) (AddFact (fact True s l.to))))))
 fits_fact rules.SaysFalse f r b v u =
     if_false f.sign (as_says r (λ p s. Some (Successor (link True p f.world v) (fact False s v))))
 fits_fact rules.SpeaksForTrue f r b v u =
-    if_true f.sign (as_speaks_for r (λ p q. as_link b (λ l _. if_true l.sign (if (l.row == q) (AddLink (link True p l.from l.to))))))
+    if_true f.sign (as_speaks_for r (λ p q. as_link b (λ l _. if_true l.sign (then_some (l.row == q) (AddLink (link True p l.from l.to))))))
 fits_fact rules.SpeaksForFalse f r b v u =
     if_false f.sign (as_speaks_for r (λ p q. Some (Apart (link True q v u) (link False p v u))))
 fits_fact rules.FactsClash f r b v u =
-    if_true f.sign (as_fact b (λ g _. if_false g.sign (if (f.row == g.row && f.world == g.world) Close)))
+    if_true f.sign (as_fact b (λ g _. if_false g.sign (then_some (f.row == g.row && f.world == g.world) Close)))
 fits_fact _ f r b v u = None
 
 -- a line that cites a link l first, whose principal row is r
@@ -104,12 +102,12 @@ fits_link rules.BothLinked l r b c v =
 fits_link rules.QuotingLinked l r b c v =
     if_true l.sign (in_row r (λ row. as_quoting row (λ p q. Some (Through (link True p l.from v) (link True q v l.to)))))
 fits_link rules.IntoBoth l r b c v =
-    if_true l.sign (as_row b (λ whole row. as_both row (λ p q. if (l.row == p || l.row == q) (AddLink (link True whole l.from l.to)))))
+    if_true l.sign (as_row b (λ whole row. as_both row (λ p q. then_some (l.row == p || l.row == q) (AddLink (link True whole l.from l.to)))))
 fits_link rules.IntoQuoting l r b c v =
     if_true l.sign (as_link b (λ k _. if_true k.sign (as_row c (λ whole row. as_quoting row (λ p q.
-    if (l.row == p && (k.row == q && l.to == k.from)) (AddLink (link True whole l.from k.to)))))))
+    then_some (l.row == p && (k.row == q && l.to == k.from)) (AddLink (link True whole l.from k.to)))))))
 fits_link rules.LinksClash l r b c v =
-    if_true l.sign (as_link b (λ k _. if_false k.sign (if (l.row == k.row && (l.from == k.from && l.to == k.to)) Close)))
+    if_true l.sign (as_link b (λ k _. if_false k.sign (then_some (l.row == k.row && (l.from == k.from && l.to == k.to)) Close)))
 fits_link _ l r b c v = None
 
 -- a line that cites a live entry

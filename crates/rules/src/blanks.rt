@@ -4,11 +4,32 @@ ghost use Rattle.rules.specs.Branches.{blank_fact, blank_link, blank_fork};
 use crate::branch::{Fact, Fork, Link, Side, Sign};
 use trail::blank::Blank;
 
+// Constants, so that whoever lends tables can fill arrays with them.
+pub const BLANK_FACT: Fact = Fact {
+    sign: Sign::False,
+    row: 0,
+    world: 0,
+};
+
+pub const BLANK_LINK: Link = Link {
+    sign: Sign::False,
+    row: 0,
+    from: 0,
+    to: 0,
+};
+
+pub const BLANK_FORK: Fork = Fork {
+    facts: 0,
+    links: 0,
+    worlds: 0,
+    kept: Side::Fact(BLANK_FACT),
+};
+
 impl Blank for Fact {
     ghost blank = { blank_fact };
 
     fn blank() -> Fact {
-        Fact::new(Sign::False, 0, 0)
+        BLANK_FACT
     }
 }
 
@@ -16,7 +37,7 @@ impl Blank for Link {
     ghost blank = { blank_link };
 
     fn blank() -> Link {
-        Link::new(Sign::False, 0, 0, 0)
+        BLANK_LINK
     }
 }
 
@@ -24,11 +45,6 @@ impl Blank for Fork {
     ghost blank = { blank_fork };
 
     fn blank() -> Fork {
-        Fork {
-            facts: 0,
-            links: 0,
-            worlds: 0,
-            kept: Side::Fact(Fact::blank()),
-        }
+        BLANK_FORK
     }
 }

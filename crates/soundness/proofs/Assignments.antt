@@ -2,16 +2,17 @@
 --
 -- added b n fs ls           the branch b with n new worlds, the facts fs and the links ls
 -- Below n fs ls             the facts fs and the links ls are of worlds below the number n
--- AllTrue g M ρ fs ls      the facts fs and the links ls are right in M under the assignment ρ
+-- AllTrue g M ρ fs ls       the facts fs and the links ls are right in M under the assignment ρ
+-- NewBelow, NewTrue         the same of the few that are new, one after another
 -- Numbered b                the branch b has a world, and its facts and links are of its worlds
 -- Models g M ρ b            under the assignment ρ the number 0 is the start, and the facts and links of the branch b are right
 -- Unsatisfied g M b         no assignment models the branch b
 -- Agree n ρ σ               two assignments agree below the number n
 -- extend ρ n x              the assignment ρ, but with the world x at the number n
-use Rattle.std.proofs.Common.{◌≡◌, ℕ, ◌+◌, ◌<◌, ◌≤◌, cond, eqb, List, [], ◌∷◌, ◌++◌, sym, refl, ◌∙◌, subst, subst₂, arith}
-use Rattle.std.specs.List.{AllByRecursion}
-use Rattle.std.proofs.ByRecursion.{All-append, All-weaker}
+use Rattle.std.proofs.Common.{◌≡◌, ℕ, ◌+◌, ◌<◌, ◌≤◌, cond, eqb, List, ◌++◌, get_or, sym, refl, ◌∙◌, subst, subst₂, arith}
+use Rattle.std.specs.List.{All, AllByRecursion}
 use Rattle.std.proofs.lemmas.Bool.{cond-true, cond-false, eq-eqb, ne_eqb}
+use Rattle.std.proofs.lemmas.List.Elements.{All-append, All-weaker, All-from_recursion}
 use Rattle.terms.specs.Truth.{Structure}
 use Rattle.rules.specs.declared.branch.Fact.{Fact}
 use Rattle.rules.specs.declared.branch.Link.{Link}
@@ -29,10 +30,16 @@ abbrev pub LinkBelow : ℕ → Link → Type 0
 LinkBelow n l = (l.from < n) × (l.to < n)
 
 abbrev pub Below : ℕ → List Fact → List Link → Type 0
-Below n fs ls = AllByRecursion (FactBelow n) fs × AllByRecursion (LinkBelow n) ls
+Below n fs ls = All (FactBelow n) fs × All (LinkBelow n) ls
 
 abbrev pub AllTrue : {W : Type 0} → Given → Structure W → (ℕ → W) → List Fact → List Link → Type 0
-AllTrue g M ρ fs ls = AllByRecursion (FactTrue g M ρ) fs × AllByRecursion (LinkTrue g M ρ) ls
+AllTrue g M ρ fs ls = All (FactTrue g M ρ) fs × All (LinkTrue g M ρ) ls
+
+abbrev pub NewBelow : ℕ → List Fact → List Link → Type 0
+NewBelow n fs ls = AllByRecursion (FactBelow n) fs × AllByRecursion (LinkBelow n) ls
+
+abbrev pub NewTrue : {W : Type 0} → Given → Structure W → (ℕ → W) → List Fact → List Link → Type 0
+NewTrue g M ρ fs ls = AllByRecursion (FactTrue g M ρ) fs × AllByRecursion (LinkTrue g M ρ) ls
 
 pub record Numbered (b : Branch) : Type 0 where
   pub some : 0 < b.worlds
@@ -57,15 +64,15 @@ extend_here ρ n x = sym (cond-true (eqb n n) x (ρ n) (eq-eqb n n refl))
 pub extend_below : {W : Type 0} (ρ : ℕ → W) (n : ℕ) (x : W) → Agree n ρ (extend ρ n x)
 extend_below ρ n x k h = sym (cond-false (eqb k n) x (ρ k) (ne_eqb k n (λ e. omega arith)))
 
-both_append : (P : Fact → Type 0) (Q : Link → Type 0) (fs new-facts : List Fact) (ls new-links : List Link) → AllByRecursion P fs × AllByRecursion Q ls → AllByRecursion P new-facts × AllByRecursion Q new-links → AllByRecursion P (fs ++ new-facts) × AllByRecursion Q (ls ++ new-links)
+pub both_append : (P : Fact → Type 0) (Q : Link → Type 0) (fs new-facts : List Fact) (ls new-links : List Link) → All P fs × All Q ls → AllByRecursion P new-facts × AllByRecursion Q new-links → All P (fs ++ new-facts) × All Q (ls ++ new-links)
 both_append P Q fs new-facts ls new-links old new =
-    (All-append P fs new-facts old.0 new.0, All-append Q ls new-links old.1 new.1)
+    (All-append P fs new-facts old.0 (All-from_recursion P new-facts new.0), All-append Q ls new-links old.1 (All-from_recursion Q new-links new.1))
 
 below_more : (n m : ℕ) (fs : List Fact) (ls : List Link) → n ≤ m → Below n fs ls → Below m fs ls
 below_more n m fs ls h below =
     (All-weaker (FactBelow n) (FactBelow m) (λ f k. omega arith) fs below.0, All-weaker (LinkBelow n) (LinkBelow m) (λ l k. omega arith) ls below.1)
 
-pub numbered_added : (b : Branch) (n : ℕ) (fs : List Fact) (ls : List Link) → Numbered b → Below (b.worlds + n) fs ls → Numbered (added b n fs ls)
+pub numbered_added : (b : Branch) (n : ℕ) (fs : List Fact) (ls : List Link) → Numbered b → NewBelow (b.worlds + n) fs ls → Numbered (added b n fs ls)
 numbered_added b n fs ls h new =
     let m = b.worlds + n in
     record {
@@ -73,15 +80,11 @@ numbered_added b n fs ls h new =
       below = both_append (FactBelow m) (LinkBelow m) b.facts fs b.links ls (below_more b.worlds m b.facts b.links (omega arith) h.below) new;
     }
 
-all_with : {X : Type 0} (P Q R : X → Type 0) → ((x : X) → P x → Q x → R x) → (xs : List X) → AllByRecursion P xs → AllByRecursion Q xs → AllByRecursion R xs
-all_with P Q R f [] p q = tt
-all_with P Q R f (x ∷ xs) p q = (f x p.0 q.0, all_with P Q R f xs p.1 q.1)
-
 module _ (g : Given) {W : Type 0} (M : Structure W) where
   -- what is right of worlds below n is right under an assignment that agrees below n
   true_agreed : (n : ℕ) (ρ σ : ℕ → W) (fs : List Fact) (ls : List Link) → Agree n ρ σ → Below n fs ls → AllTrue g M ρ fs ls → AllTrue g M σ fs ls
   true_agreed n ρ σ fs ls agree below true =
-      (all_with (FactBelow n) (FactTrue g M ρ) (FactTrue g M σ) fact-agreed fs below.0 true.0, all_with (LinkBelow n) (LinkTrue g M ρ) (LinkTrue g M σ) link-agreed ls below.1 true.1)
+      (λ k d h. fact-agreed (get_or fs k d) (below.0 k d h) (true.0 k d h), λ k d h. link-agreed (get_or ls k d) (below.1 k d h) (true.1 k d h))
     where
       fact-agreed : (f : Fact) → FactBelow n f → FactTrue g M ρ f → FactTrue g M σ f
       fact-agreed f h t = subst (λ x. Signed f.sign (TrueAt g M f.row x)) (agree f.world h) t
@@ -90,7 +93,7 @@ module _ (g : Given) {W : Type 0} (M : Structure W) where
       link-agreed l h t =
           subst₂ (λ x y. Signed l.sign (Linked g M l.row x y)) (agree l.from h.0) (agree l.to h.1) t
 
-  pub models_added : (b : Branch) (n : ℕ) (fs : List Fact) (ls : List Link) (ρ σ : ℕ → W) → Numbered b → Models g M ρ b → Agree b.worlds ρ σ → AllTrue g M σ fs ls → Models g M σ (added b n fs ls)
+  pub models_added : (b : Branch) (n : ℕ) (fs : List Fact) (ls : List Link) (ρ σ : ℕ → W) → Numbered b → Models g M ρ b → Agree b.worlds ρ σ → NewTrue g M σ fs ls → Models g M σ (added b n fs ls)
   models_added b n fs ls ρ σ h m agree new =
       record {
         root = sym (agree 0 h.some) ∙ m.root;

@@ -1,9 +1,9 @@
 -- A file passes just when it keeps the rules within the limits.
-use Rattle.std.proofs.Common.{◌≡◌, ℕ, zero, suc, ◌+◌, ◌*◌, ◌<◌, ◌≤◌, Bool, true, false, cond, ◌&&◌, eqb, ltb, leb, List, [], ◌∷◌, length, Some, None, Ok, Err, Result, sym, refl, ap, ◌∙◌, subst, arith}
+use Rattle.std.proofs.Common.{◌≡◌, ℕ, zero, suc, ◌+◌, ◌*◌, ◌<◌, ◌≤◌, true, ◌&&◌, eqb, ltb, leb, List, [], ◌∷◌, length, Some, Ok, sym, refl, ap, ◌∙◌, subst, arith}
 use Rattle.std.specs.List.{slice_get}
-use Rattle.std.proofs.lemmas.Bool.{and_parts, and_from, leb-true, le-leb, ltb-true, lt-ltb, eqb-true, eq-eqb, cond-true, cond-false}
+use Rattle.std.proofs.lemmas.Bool.{and_parts, and_from, leb-true, le-leb, ltb-true, lt-ltb, eqb-true, eq-eqb, cond-true}
+use Rattle.std.proofs.lemmas.Bool.Decides.{nat_tests}
 use Rattle.std.proofs.lemmas.Option.{same_Some}
-use Rattle.denials.specs.declared.denial.Denial.{Denial}
 use Rattle.denials.specs.Denials.{denied}
 use Rattle.files.specs.declared.head.Head.{Head}
 use Rattle.files.specs.Heads.{among, head_read, request_named, count_within, long_as, Headed}
@@ -17,8 +17,8 @@ use Rattle.rules.specs.Fits.{effect}
 use Rattle.rules.specs.Shapes.{shaped, takes}
 use Rattle.soundness.specs.Given.{Given}
 use Rattle.soundness.specs.Rules.{Allows, Completes}
-use Rattle.soundness.specs.Walking.{Limits, Held, Within, ForksFit, Roomy, sizes, on, further, line_move, roomy, line_walked, lines_walked}
-use Rattle.soundness.specs.ProofFiles.{line_at, lines_from, lines_passed, Reading, proof_read, walked, Keeps}
+use Rattle.soundness.specs.Walking.{Limits, Held, Within, ForksFit, Roomy, sizes, further, line_move, roomy, line_walked, lines_walked}
+use Rattle.soundness.specs.ProofFiles.{line_at, lines_from, Reading, proof_read, walked, Keeps}
 use Rattle.soundness.specs.Laws.{PassesExactly}
 use Rattle.soundness.proofs.Allowed.{allowed_walks}
 use Rattle.soundness.proofs.Inversions.{on_some, further_ok, cond_ok}
@@ -32,47 +32,26 @@ takes_up g b l s m n shapes moves =
     let shape : w.shape ≡ s = same_Some _ _ (sym w.shaped_so ∙ shapes) in
     ap (λ t. takes t.rule) (sym shape) ∙ w.takes_up
 
--- what walking a line answers, stage by stage
-module _ (lim : Limits) (g : Given) (b : Branch) (fs : List Fork) (l : Line) (n : ℕ) where
-  abbrev in_room : Shape → Move → Result Progress Denial
-  in_room s m = cond (roomy lim b fs (takes s.rule)) (Ok (moved b fs (effect m))) (Err (denied 25 n))
-
-  abbrev with_shape : Shape → Result Progress Denial
-  with_shape s = further (line_move g b s l n) (in_room s)
-
-  pub shapeless : shaped l ≡ None → line_walked lim g b fs l n ≡ Err (denied 21 n)
-  shapeless none = ap (λ o. on (denied 21 n) o with_shape) none
-
-  pub moveless : (s : Shape) (d : Denial) → shaped l ≡ Some s → line_move g b s l n ≡ Err d → line_walked lim g b fs l n ≡ Err d
-  moveless s d shapes denies = ap (λ o. on (denied 21 n) o with_shape) shapes ∙ ap (λ r. further r (in_room s)) denies
-
-  pub roomless : (s : Shape) (m : Move) → shaped l ≡ Some s → line_move g b s l n ≡ Ok m → roomy lim b fs (takes s.rule) ≡ false → line_walked lim g b fs l n ≡ Err (denied 25 n)
-  roomless s m shapes moves full = ap (λ o. on (denied 21 n) o with_shape) shapes ∙ ap (λ r. further r (in_room s)) moves ∙ cond-false _ _ _ full
-
-  pub moving : (s : Shape) (m : Move) → shaped l ≡ Some s → line_move g b s l n ≡ Ok m → roomy lim b fs (takes s.rule) ≡ true → line_walked lim g b fs l n ≡ Ok (moved b fs (effect m))
-  moving s m shapes moves room = ap (λ o. on (denied 21 n) o with_shape) shapes ∙ ap (λ r. further r (in_room s)) moves ∙ cond-true _ _ _ room
+-- what walking a line answers where all goes well
+pub moving : (lim : Limits) (g : Given) (b : Branch) (fs : List Fork) (l : Line) (n : ℕ) (s : Shape) (m : Move) → shaped l ≡ Some s → line_move g b s l n ≡ Ok m → roomy lim b fs (takes s.rule) ≡ true → line_walked lim g b fs l n ≡ Ok (moved b fs (effect m))
+moving lim g b fs l n s m shapes moves room = simp (shapes, moves, room)
 
 -- one line
 module _ (lim : Limits) (g : Given) (b : Branch) (fs : List Fork) (l : Line) (n : ℕ) (held : Held lim b fs) where
   pub line_passes : (e : Effect) → Allows g b l e → Within lim (moved b fs e) → line_walked lim g b fs l n ≡ Ok (moved b fs e)
   line_passes e allowed within =
       let w = allowed_walks g b l e n allowed in
-      let m = w.move in
-      let after = subst (λ d. Within lim (moved b fs d)) w.does within in
-      let up : takes w.shape.rule ≡ sizes (effect m) = w.takes_up ∙ ap sizes w.does in
-      let room : roomy lim b fs (takes w.shape.rule) ≡ true = ap (roomy lim b fs) up ∙ room_from lim b fs (sizes (effect m)) (room_before lim b fs held m after) in
-      moving lim g b fs l n w.shape m w.shaped_so w.moves room ∙ ap (λ d. Ok (moved b fs d)) (sym w.does)
+      let room : roomy lim b fs (takes w.shape.rule) ≡ true = ap (roomy lim b fs) w.takes_up ∙ room_from lim b fs (sizes e) (room_before lim b fs held e within) in
+      moving lim g b fs l n w.shape w.move w.shaped_so w.moves room ∙ ap (λ d. Ok (moved b fs d)) (sym w.does)
 
   pub line_passed : (p : Progress) → ForksFit lim fs → line_walked lim g b fs l n ≡ Ok p → (e : Effect) × (Allows g b l e × ((p ≡ moved b fs e) × (Within lim p × Roomy lim p)))
   line_passed p fit e =
-      let s = on_some (denied 21 n) (shaped l) _ p e in
-      let m = further_ok (line_move g b s.0 l n) _ p s.1.1 in
-      let room = cond_ok (roomy lim b fs (takes s.0.rule)) (Ok (moved b fs (effect m.0))) (denied 25 n) p m.1.1 in
-      let is : p ≡ moved b fs (effect m.0) = (let same = room.1 in cc) in
-      let allowed = walked_allows g b l s.0 m.0 n s.1.0 m.1.0 in
-      let up = takes_up g b l s.0 m.0 n s.1.0 m.1.0 in
-      let after = fine_after lim b fs held m.0 fit (room_parts lim b fs (sizes (effect m.0)) (ap (roomy lim b fs) (sym up) ∙ room.0)) in
-      (effect m.0, (allowed, (is, (subst (Within lim) (sym is) after.0, subst (Roomy lim) (sym is) after.1))))
+      let (s, (shapes, e₁)) = on_some (denied 21 n) (shaped l) _ p e in
+      let (m, (moves, e₂)) = further_ok (line_move g b s l n) _ p e₁ in
+      let (free, ran) = cond_ok (roomy lim b fs (takes s.rule)) (Ok (moved b fs (effect m))) (denied 25 n) p e₂ in
+      let is : p ≡ moved b fs (effect m) = cc in
+      let room = room_parts lim b fs (sizes (effect m)) (ap (roomy lim b fs) (sym (takes_up g b l s m n shapes moves)) ∙ free) in
+      (effect m, (walked_allows g b l s m n shapes moves, (is, subst (λ q. Within lim q × Roomy lim q) (sym is) (fine_after lim b fs held m fit room))))
 
 -- all lines
 module _ (lim : Limits) (g : Given) where
@@ -90,11 +69,10 @@ module _ (lim : Limits) (g : Given) where
   lines_passing [] (going b fs) n within room e = cc
   lines_passing (l ∷ ls) complete n within room e = cc
   lines_passing (l ∷ ls) (going b fs) n within room e =
-      let p = further_ok (line_walked lim g b fs l (n + 1)) _ tt e in
-      let a = line_passed lim g b fs l (n + 1) within p.0 room p.1.0 in
-      let is = a.1.1.0 in
-      let later = lines_passing ls p.0 (n + 1) a.1.1.1.0 a.1.1.1.1 p.1.1 in
-      (a.0, (a.1.0, (subst (Within lim) is a.1.1.1.0, subst (λ q. Completes g (Within lim) q ls) is later)))
+      let (p, (walks, rest)) = further_ok (line_walked lim g b fs l (n + 1)) _ tt e in
+      let (effects, (allowed, (is, (fine, roomy)))) = line_passed lim g b fs l (n + 1) within p room walks in
+      let later = lines_passing ls p (n + 1) fine roomy rest in
+      (effects, (allowed, subst (λ q. Within lim q × Completes g (Within lim) q ls) is (fine, later)))
 
 -- the lines of a file
 length_lines : (bytes : List ℕ) (i n : ℕ) → length (lines_from bytes i n) ≡ n
@@ -114,11 +92,7 @@ lines_are bytes i (l ∷ ls) each =
     cc
 
 among_one : (k : ℕ) → among (1 ∷ []) k ≡ true → k ≡ 1
-among_one k e = go (eqb 1 k) refl e
-  where
-    go : (b : Bool) → eqb 1 k ≡ b → cond b true false ≡ true → k ≡ 1
-    go true is h = sym (eqb-true 1 k is)
-    go false is h = cc
+among_one k e = grind (arith, nat_tests)
 
 -- what is read off a proof file that is laid out right
 record Read (most named : ℕ) (bytes : List ℕ) (p : Reading) : Type 0 where
@@ -130,24 +104,27 @@ record Read (most named : ℕ) (bytes : List ℕ) (p : Reading) : Type 0 where
 
 read_so : (most named : ℕ) (bytes : List ℕ) (p : Reading) → proof_read most named bytes ≡ Ok p → Read most named bytes p
 read_so most named bytes p e =
-    let h = further_ok (head_read (1 ∷ []) bytes) _ p e in
-    let row = further_ok (request_named named h.0) _ p h.1.1 in
-    let count = further_ok (count_within most h.0) _ p row.1.1 in
-    let long = further_ok (long_as (10 + 7 * count.0) bytes) _ p count.1.1 in
-    let is : record { request = row.0; lines = count.0 } ≡ p = (let same = long.1.1 in cc) in
-    let below = cond_ok (ltb h.0.request named) (Ok h.0.request) (denied 17 6) row.0 row.1.0 in
-    let within = cond_ok (leb 1 h.0.count && leb h.0.count most) (Ok h.0.count) (denied 18 8) count.0 count.1.0 in
-    let sized = cond_ok (eqb (length bytes) (10 + 7 * count.0)) (Ok tt) (denied 19 10) long.0 long.1.0 in
-    let head = (head_exactly (1 ∷ []) bytes h.0).0 h.1.0 in
-    let request : h.0.request ≡ p.request = (let same = below.1 in cc) ∙ ap (λ q. q.request) is in
-    let lines : h.0.count ≡ p.lines = (let same = within.1 in cc) ∙ ap (λ q. q.lines) is in
-    let range = and_parts (leb 1 h.0.count) (leb h.0.count most) within.0 in
+    let (h, (reading, e₁)) = further_ok (head_read (1 ∷ []) bytes) _ p e in
+    let (row, (requests, e₂)) = further_ok (request_named named h) _ p e₁ in
+    let (count, (counts, e₃)) = further_ok (count_within most h) _ p e₂ in
+    let (done, (measures, e₄)) = further_ok (long_as (10 + 7 * count) bytes) _ p e₃ in
+    let is : record { request = row; lines = count } ≡ p = cc in
+    let (below, same-row) = cond_ok (ltb h.request named) (Ok h.request) (denied 17 6) row requests in
+    let (within, same-count) = cond_ok (leb 1 h.count && leb h.count most) (Ok h.count) (denied 18 8) count counts in
+    let (sized, _) = cond_ok (eqb (length bytes) (10 + 7 * count)) (Ok tt) (denied 19 10) done measures in
+    let (known, headed) = (head_exactly (1 ∷ []) bytes h).0 reading in
+    let kind = among_one h.kind known in
+    let row_is : h.request ≡ row = cc in
+    let count_is : h.count ≡ count = cc in
+    let request : h.request ≡ p.request = row_is ∙ ap (λ q. q.request) is in
+    let lines : h.count ≡ p.lines = count_is ∙ ap (λ q. q.lines) is in
+    let range = and_parts (leb 1 h.count) (leb h.count most) within in
     record {
-      headed = subst (λ k. Headed k p.request p.lines bytes) (among_one h.0.kind head.0) (subst (λ q. Headed h.0.kind q p.lines bytes) request (subst (λ c. Headed h.0.kind h.0.request c bytes) lines head.1));
-      known = subst (λ q. q < named) request (ltb-true h.0.request named below.0);
-      some = subst (λ c. 1 ≤ c) lines (leb-true 1 h.0.count range.0);
-      few = subst (λ c. c ≤ most) lines (leb-true h.0.count most range.1);
-      long = eqb-true _ _ sized.0 ∙ ap (λ q. 10 + 7 * q.lines) is;
+      headed = rw (kind, request, lines) at headed;
+      known = omega (arith, ltb-true h.request named below);
+      some = omega (arith, leb-true 1 h.count range.0);
+      few = omega (arith, leb-true h.count most range.1);
+      long = eqb-true _ _ sized ∙ ap (λ q. 10 + 7 * q.lines) is;
     }
 
 reads : (most named : ℕ) (bytes : List ℕ) (p : Reading) → Read most named bytes p → proof_read most named bytes ≡ Ok p
@@ -159,10 +136,7 @@ reads most named bytes p read =
     let row : request_named named h ≡ Ok r = cond-true _ _ _ (lt-ltb r named read.known) in
     let count : count_within most h ≡ Ok n = cond-true _ _ _ (and_from _ _ (le-leb 1 n read.some) (le-leb n most read.few)) in
     let long : long_as (10 + 7 * n) bytes ≡ Ok tt = cond-true _ _ _ (eq-eqb _ _ read.long) in
-    ap (λ x. further x (λ h. further (request_named named h) (λ q. further (count_within most h) (λ c. further (long_as (10 + 7 * c) bytes) (λ _. Ok (record { request = q; lines = c })))))) head ∙
-    ap (λ x. further x (λ q. further (count_within most h) (λ c. further (long_as (10 + 7 * c) bytes) (λ _. Ok (record { request = q; lines = c }))))) row ∙
-    ap (λ x. further x (λ c. further (long_as (10 + 7 * c) bytes) (λ _. Ok (record { request = r; lines = c })))) count ∙
-    ap (λ x. further x (λ _. Ok (record { request = r; lines = n }))) long
+    simp (head, row, count, long)
 
 pub passes_exactly : PassesExactly
 passes_exactly lim g bytes r some_world = (keeps, passes)
@@ -187,13 +161,13 @@ passes_exactly lim g bytes r some_world = (keeps, passes)
         record {
           lines = lines;
           laid_out = record {
-            headed = subst (λ q. Headed 1 q (length lines) bytes) request (subst (λ c. Headed 1 p.request c bytes) (sym size) read.headed);
-            some = subst (λ c. 1 ≤ c) (sym size) read.some;
-            few = subst (λ c. c ≤ lim.lines) (sym size) read.few;
-            long = read.long ∙ ap (λ c. 10 + 7 * c) (sym size);
+            headed = rw (request, ← size) at read.headed;
+            some = omega arith;
+            few = omega arith;
+            long = omega arith;
             each = λ i l at. ap (line_at bytes) (omega arith) ∙ lines_each bytes 0 p.lines i l at;
           };
-          named = subst (λ q. q < named) request read.known;
+          named = omega arith;
           starts = fits;
           completes = subst (λ q. Completes g (Within lim) (going (start q) []) lines) request (lines_passing lim g lines (going (start p.request) []) 0 (subst (λ q. Held lim (start q) []) (sym request) fits) tt ran.1.0);
         }
@@ -207,6 +181,4 @@ passes_exactly lim g bytes r some_world = (keeps, passes)
         let room : leb 1 lim.facts ≡ true = le-leb 1 lim.facts k.starts.facts in
         let lines : lines_from bytes 0 n ≡ k.lines = lines_are bytes 0 k.lines (λ i l at. ap (line_at bytes) (omega arith) ∙ d.each i l at) in
         let ran : lines_walked lim g 0 (going (start r) []) (lines_from bytes 0 n) ≡ Ok tt = ap (lines_walked lim g 0 (going (start r) [])) lines ∙ lines_pass lim g k.lines (going (start r) []) 0 k.starts k.completes in
-        ap (λ x. further x (λ p. lines_passed lim g bytes p.request p.lines)) read ∙
-        cond-true _ _ _ room ∙
-        ap (λ x. further x (λ _. Ok r)) ran
+        simp (read, room, ran)

@@ -1,5 +1,6 @@
 -- What an answer of the computed walk was made of: each stage that goes on had something to go on with.
 use Rattle.std.proofs.Common.{◌≡◌, ℕ, Bool, true, false, cond, Some, None, Ok, Err, Option, Result, refl}
+use Rattle.std.specs.Bool.{then_some}
 use Rattle.std.specs.List.{slice_get}
 use Rattle.std.specs.Option.{ok_or}
 use Rattle.denials.specs.declared.denial.Denial.{Denial}
@@ -34,6 +35,10 @@ module _ {X : Type 0} where
   pub ok_or_ok : (o : Option X) (d : Denial) (x : X) → ok_or o d ≡ Ok x → o ≡ Some x
   ok_or_ok None d x e = cc
   ok_or_ok (Some y) d x e = cc
+
+  pub test_some : (b : Bool) (x y : X) → then_some b x ≡ Some y → (b ≡ true) × (x ≡ y)
+  test_some true x y e = (refl, cc)
+  test_some false x y e = cc
 
   pub true_some : (s : Sign) (o : Option X) (x : X) → if_true s o ≡ Some x → (s ≡ True) × (o ≡ Some x)
   true_some True o x e = (refl, e)

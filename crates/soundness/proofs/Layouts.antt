@@ -1,20 +1,21 @@
 -- A proof file's request and lines settle its bytes.
 --
 -- Agree m            the first m bytes of the two files are the same
-use Rattle.std.proofs.Common.{◌≡◌, ℕ, zero, suc, ◌+◌, ◌*◌, ◌<◌, ◌≤◌, List, [], ◌∷◌, length, sym, ap, ◌∙◌, arith, below_none, below_more}
-use Rattle.std.specs.List.{AllByRecursion}
-use Rattle.std.proofs.lemmas.List.{ext_get_or}
-use Rattle.terms.proofs.Nths.{nth_some}
+use Rattle.std.proofs.Common.{◌≡◌, ℕ, zero, suc, ◌+◌, ◌*◌, ◌<◌, ◌≤◌, List, length, get_or, sym, ap, inl, inr, ◌∙◌, arith, below_none, below_more}
+use Rattle.std.specs.List.{All}
+use Rattle.std.proofs.lemmas.Bool.{cases_lt}
+use Rattle.std.proofs.lemmas.List.{ext_get_or, get_or_past}
+use Rattle.std.proofs.lemmas.Option.{slice_get-get_or}
 use Rattle.files.specs.Heads.{byte, number}
 use Rattle.rules.specs.declared.line.Line.{Line}
+use Rattle.soundness.specs.Rules.{line}
 use Rattle.soundness.specs.ProofFiles.{line_at, ProofFile, SameBytes}
 
-byte_below : (bytes : List ℕ) → AllByRecursion (λ x. x < 256) bytes → (i : ℕ) → byte bytes i < 256
-byte_below [] small i = omega arith
-byte_below (x ∷ xs) small zero = small.0
-byte_below (x ∷ xs) small (suc i) = byte_below xs small.1 i
+byte_below : (bytes : List ℕ) → All (λ x. x < 256) bytes → (i : ℕ) → byte bytes i < 256
+byte_below bytes small i =
+    elim (cases_lt i (length bytes)) [ inl within ↦ small i 0 within | inr past ↦ omega (arith, get_or_past bytes i 0 past) ]
 
-module _ (xs ys : List ℕ) (xs-small : AllByRecursion (λ x. x < 256) xs) (ys-small : AllByRecursion (λ y. y < 256) ys) where
+module _ (xs ys : List ℕ) (xs-small : All (λ x. x < 256) xs) (ys-small : All (λ y. y < 256) ys) where
   abbrev Agree : ℕ → Type 0
   Agree m = (i : ℕ) → i < m → byte xs i ≡ byte ys i
 
@@ -38,8 +39,9 @@ module _ (xs ys : List ℕ) (xs-small : AllByRecursion (λ x. x < 256) xs) (ys-s
     lines_agree : (k : ℕ) → k ≤ length ls → Agree (10 + 7 * k)
     lines_agree zero h i below = heads_agree i (omega arith)
     lines_agree (suc k) h i below =
-        let l = nth_some ls k (omega arith) in
-        let same : line_at xs k ≡ line_at ys k = laid-xs.each k l.0 l.1 ∙ sym (laid-ys.each k l.0 l.1) in
+        let l = get_or ls k (line 0 0 0 0) in
+        let at = slice_get-get_or ls k (line 0 0 0 0) (omega arith) in
+        let same : line_at xs k ≡ line_at ys k = laid-xs.each k l at ∙ sym (laid-ys.each k l at) in
         let code = one_more (10 + 7 * k) (lines_agree k (omega arith)) (ap (λ t. t.code) same) in
         let a = two_more (11 + 7 * k) (λ j m. code j (omega arith)) (ap (λ t. t.a) same) in
         let b = two_more (13 + 7 * k) (λ j m. a j (omega arith)) (ap (λ t. t.b) same) in

@@ -5,11 +5,10 @@
 use Rattle.std.proofs.Common.{◌≡◌, ℕ, true, false, eqb, List, [], ◌∷◌, Some, refl, subst, subst₂, inr, zero-le, arith}
 use Rattle.std.specs.List.{AllByRecursion}
 use Rattle.std.proofs.lemmas.Bool.{cond_both, false≢true}
-use Rattle.std.proofs.lemmas.Option.{none-some, same_Some}
+use Rattle.std.proofs.lemmas.Option.{same_Some, slice_get_within}
 use Rattle.terms.specs.Laws.{SoundRows}
 use Rattle.terms.specs.Truth.{Structure, Holds, Finite, structure}
 use Rattle.terms.specs.Written.{Statement, statement_written}
-use Rattle.terms.proofs.Nths.{nth_below}
 use Rattle.terms.proofs.Settling.{finite_structures_are_settled}
 use Rattle.terms.proofs.Sound.{principal_named_sound, statement_named_sound}
 use Rattle.book.specs.declared.entry.Entry.{Entry}
@@ -34,9 +33,9 @@ none_sound =
       statements_within = omega arith;
       principals_distinct = λ i j h. omega arith;
       statements_distinct = λ i j h. omega arith;
-      principals_earlier = λ n r e. absurd (none-some r e);
-      statements_earlier = λ n r e. absurd (none-some r e);
-      named = λ n r e. absurd (none-some r e);
+      principals_earlier = λ n r e. cc;
+      statements_earlier = λ n r e. cc;
+      named = λ n r e. cc;
     }
 
 -- naming the rows one after another
@@ -73,7 +72,7 @@ module _ {W : Type 0} (M : Structure W) where
   live_holds es all standing serial n s live written =
       let g = tin_with es in
       let at = live.row in
-      let found = named_sentence g n (nth_below tin.statements n live.named.0 live.named.1) in
+      let found = named_sentence g n (slice_get_within tin.statements n live.named.0 live.named.1) in
       let same : sentence g live.entry.row ≡ s = cc in
       subst₂ HeldSo live.stands same (filed_all (EntryHolds g) es all serial live.entry live.found)
 

@@ -1,52 +1,41 @@
 -- What the walk holds stays within the limits just where the lines find their places.
-use Rattle.std.proofs.Common.{◌≡◌, ℕ, ◌+◌, ◌≤◌, true, leb, List, [], ◌∷◌, length, take, arith}
+use Rattle.std.proofs.Common.{◌≡◌, ℕ, ◌≤◌, true, List, [], ◌∷◌, take, arith}
 use Rattle.std.proofs.lemmas.List.{length-append, length_push, length-take}
-use Rattle.std.proofs.lemmas.Bool.{and_parts, and_from, leb-true, le-leb}
+use Rattle.std.proofs.lemmas.Bool.Decides.{nat_tests}
 use Rattle.rules.specs.declared.branch.Fact.{Fact}
 use Rattle.rules.specs.declared.branch.Fork.{Fork}
 use Rattle.rules.specs.declared.branch.Link.{Link}
 use Rattle.rules.specs.declared.moves.Move.{Move}
-use Rattle.rules.specs.declared.moves.Move.TheVariants.{AddFact, AddFacts, AddLink, Successor, Through, Apart, ForkFacts, ForkLinks, Close}
+use Rattle.rules.specs.declared.moves.Move.TheVariants.{ForkFacts, ForkLinks, Close}
 use Rattle.rules.specs.declared.branch.Side.{Side}
 use Rattle.rules.specs.declared.branch.Side.TheVariants as sides
 use Rattle.rules.specs.declared.table.Places.{Places}
-use Rattle.rules.specs.Branches.{Branch, branch, with_side, closed, adds, Progress, moved}
+use Rattle.rules.specs.Branches.{Branch, branch, with_side, closed, Effect, adds, forks, closes, Progress, moved}
 use Rattle.rules.specs.Fits.{effect}
 use Rattle.soundness.specs.Walking.{Limits, Held, Within, SideFits, ForksFit, Roomy, sizes, Room, roomy}
 
 -- the test for free places, part by part
 pub room_parts : (lim : Limits) (b : Branch) (fs : List Fork) (p : Places) → roomy lim b fs p ≡ true → Room lim b fs p
 room_parts lim b fs p e =
-    let facts = and_parts (leb (length b.facts + p.facts) lim.facts) _ e in
-    let links = and_parts (leb (length b.links + p.links) lim.links) _ facts.1 in
-    let worlds = and_parts (leb (b.worlds + p.worlds) lim.worlds) (leb (length fs + p.forks) lim.forks) links.1 in
-    record {
-      facts = leb-true _ _ facts.0;
-      links = leb-true _ _ links.0;
-      worlds = leb-true _ _ worlds.0;
-      forks = leb-true _ _ worlds.1;
-    }
+    record { facts = grind (arith, nat_tests); links = grind (arith, nat_tests); worlds = grind (arith, nat_tests); forks = grind (arith, nat_tests) }
 
 pub room_from : (lim : Limits) (b : Branch) (fs : List Fork) (p : Places) → Room lim b fs p → roomy lim b fs p ≡ true
-room_from lim b fs p r = and_from _ _ (le-leb _ _ r.facts) (and_from _ _ (le-leb _ _ r.links) (and_from _ _ (le-leb _ _ r.worlds) (le-leb _ _ r.forks)))
+room_from lim b fs p r = grind (arith, nat_tests, r.facts, r.links, r.worlds, r.forks)
 
--- what is counted when the branch is cut back
-cut_short : {X : Type 0} (n : ℕ) (xs : List X) → (length (take n xs) ≤ n) × (length (take n xs) ≤ length xs)
-cut_short n xs = (omega (arith, length-take n xs), omega (arith, length-take n xs))
-
+-- the branch cut back, with the kept alternative
 back_within : (lim : Limits) (b : Branch) (f : Fork) (rest : List Fork) (kept : Side) → Held lim b (f ∷ rest) → SideFits lim f kept → f.worlds ≤ lim.worlds → Held lim (with_side (branch (take f.facts b.facts) (take f.links b.links) f.worlds) kept) rest
 back_within lim b f rest (sides.Fact x) held side worlds =
     record {
-      facts = omega (arith, cut_short f.facts b.facts, length_push (take f.facts b.facts) x);
-      links = omega (arith, cut_short f.links b.links, held.links);
-      forks = omega (arith, held.forks);
+      facts = omega (arith, length-take f.facts b.facts, length_push (take f.facts b.facts) x);
+      links = omega (arith, length-take f.links b.links);
+      forks = omega arith;
       worlds = worlds;
     }
 back_within lim b f rest (sides.Link x) held side worlds =
     record {
-      facts = omega (arith, cut_short f.facts b.facts, held.facts);
-      links = omega (arith, cut_short f.links b.links, length_push (take f.links b.links) x);
-      forks = omega (arith, held.forks);
+      facts = omega (arith, length-take f.facts b.facts);
+      links = omega (arith, length-take f.links b.links, length_push (take f.links b.links) x);
+      forks = omega arith;
       worlds = worlds;
     }
 
@@ -62,8 +51,8 @@ module _ (lim : Limits) (b : Branch) (fs : List Fork) (held : Held lim b fs) whe
   added : (n : ℕ) (facts : List Fact) (links : List Link) → ForksFit lim fs → Room lim b fs (sizes (adds n facts links)) → Fine lim (moved b fs (adds n facts links))
   added n facts links fit room = (
     record {
-      facts = omega (arith, room.facts, length-append b.facts facts);
-      links = omega (arith, room.links, length-append b.links links);
+      facts = omega (arith, length-append b.facts facts);
+      links = omega (arith, length-append b.links links);
       forks = held.forks;
       worlds = room.worlds;
     },
@@ -71,42 +60,24 @@ module _ (lim : Limits) (b : Branch) (fs : List Fork) (held : Held lim b fs) whe
   )
 
   pub fine_after : (m : Move) → ForksFit lim fs → Room lim b fs (sizes (effect m)) → Fine lim (moved b fs (effect m))
-  fine_after (AddFact f) fit room = added 0 (f ∷ []) [] fit room
-  fine_after (AddFacts f h) fit room = added 0 (f ∷ h ∷ []) [] fit room
-  fine_after (AddLink l) fit room = added 0 [] (l ∷ []) fit room
-  fine_after (Successor l f) fit room = added 1 (f ∷ []) (l ∷ []) fit room
-  fine_after (Through l m) fit room = added 1 [] (l ∷ m ∷ []) fit room
-  fine_after (Apart l m) fit room = added 2 [] (l ∷ m ∷ []) fit room
   fine_after (ForkFacts f h) fit room = (
-    record { facts = omega (arith, room.facts, length_push b.facts f); links = held.links; forks = omega (arith, room.forks); worlds = held.worlds },
-    (record { side = omega (arith, room.facts); worlds = held.worlds }, fit),
+    record { facts = omega (arith, length_push b.facts f); links = held.links; forks = omega arith; worlds = held.worlds },
+    (record { side = omega arith; worlds = held.worlds }, fit),
   )
-  fine_after (ForkLinks l m) fit room = (
-    record { facts = held.facts; links = omega (arith, room.links, length_push b.links l); forks = omega (arith, room.forks); worlds = held.worlds },
-    (record { side = omega (arith, room.links); worlds = held.worlds }, fit),
+  fine_after (ForkLinks l k) fit room = (
+    record { facts = held.facts; links = omega (arith, length_push b.links l); forks = omega arith; worlds = held.worlds },
+    (record { side = omega arith; worlds = held.worlds }, fit),
   )
   fine_after Close fit room = closed_fine lim b fs held fit
-
-  adding : (n : ℕ) (facts : List Fact) (links : List Link) → Within lim (moved b fs (adds n facts links)) → Room lim b fs (sizes (adds n facts links))
-  adding n facts links after =
-      record {
-        facts = omega (arith, after.facts, length-append b.facts facts);
-        links = omega (arith, after.links, length-append b.links links);
-        forks = omega (arith, after.forks);
-        worlds = after.worlds;
-      }
+  fine_after _ fit room = added _ _ _ fit room
 
   -- and where it is within the limits after the line, there was room
-  pub room_before : (m : Move) → Within lim (moved b fs (effect m)) → Room lim b fs (sizes (effect m))
-  room_before (AddFact f) after = adding 0 (f ∷ []) [] after
-  room_before (AddFacts f h) after = adding 0 (f ∷ h ∷ []) [] after
-  room_before (AddLink l) after = adding 0 [] (l ∷ []) after
-  room_before (Successor l f) after = adding 1 (f ∷ []) (l ∷ []) after
-  room_before (Through l m) after = adding 1 [] (l ∷ m ∷ []) after
-  room_before (Apart l m) after = adding 2 [] (l ∷ m ∷ []) after
-  room_before (ForkFacts f h) after =
-      record { facts = omega (arith, after.facts, length_push b.facts f); links = omega (arith, after.links); forks = omega (arith, after.forks); worlds = omega (arith, after.worlds) }
-  room_before (ForkLinks l m) after =
-      record { facts = omega (arith, after.facts); links = omega (arith, after.links, length_push b.links l); forks = omega (arith, after.forks); worlds = omega (arith, after.worlds) }
-  room_before Close after =
-      record { facts = omega (arith, held.facts); links = omega (arith, held.links); forks = omega (arith, held.forks); worlds = omega (arith, held.worlds) }
+  pub room_before : (e : Effect) → Within lim (moved b fs e) → Room lim b fs (sizes e)
+  room_before (adds n facts links) after =
+      record { facts = omega (arith, length-append b.facts facts); links = omega (arith, length-append b.links links); forks = omega arith; worlds = omega arith }
+  room_before (forks (sides.Fact f) kept) after =
+      record { facts = omega (arith, length_push b.facts f); links = omega arith; forks = omega arith; worlds = omega arith }
+  room_before (forks (sides.Link l) kept) after =
+      record { facts = omega arith; links = omega (arith, length_push b.links l); forks = omega arith; worlds = omega arith }
+  room_before closes after =
+      record { facts = omega arith; links = omega arith; forks = omega arith; worlds = omega arith }

@@ -1,9 +1,15 @@
 -- The shape of a line tells its code and its rule.
-use Rattle.std.proofs.Common.{◌≡◌, ℕ, zero, suc, ◌+◌, ◌-◌, Bool, true, false, cond, ◌&&◌, eqb, Some, None, Option, sym, refl, ap, ◌∙◌, arith}
-use Rattle.std.specs.List.{slice_get}
-use Rattle.std.proofs.lemmas.Bool.{and_parts, eqb-false}
+--
+-- code r        the code of the rule r
+-- shape_of r    the shape at its place in the table
+use Rattle.std.proofs.Common.{◌≡◌, ℕ, ◌+◌, ◌-◌, Bool, true, ◌&&◌, eqb, get_or, Some, None, Option, sym, ap, ◌∙◌, subst, arith}
+use Rattle.std.specs.List.{slice_get, range_with_len}
+use Rattle.std.specs.Option.{option_map}
+use Rattle.std.proofs.lemmas.Bool.{and_parts, cond_both, eqb-false}
+use Rattle.std.proofs.lemmas.List.FromFn.{get_or-range_with_len}
+use Rattle.std.proofs.lemmas.Option.{cond_some, get_or_from_slice_get, slice_get-map, slice_get_within}
 use Rattle.rules.specs.declared.line.Line.{Line}
-use Rattle.rules.specs.declared.line.Use.TheVariants.{Fact, Link, World, Row, Serial, Unused}
+use Rattle.rules.specs.declared.line.Use.TheVariants.{Unused}
 use Rattle.rules.specs.declared.rule.Rule.{Rule}
 use Rattle.rules.specs.declared.rule.Rule.TheVariants.{CiteRule, CiteSaying, Not, AndTrue, AndFalse, SaysTrue, SaysFalse, SpeaksForTrue, SpeaksForFalse, BothLinked, QuotingLinked, IntoBoth, IntoQuoting, FactsClash, LinksClash}
 use Rattle.rules.specs.declared.table.Shape.{Shape}
@@ -26,46 +32,18 @@ code IntoQuoting = 13
 code FactsClash = 14
 code LinksClash = 15
 
+abbrev nothing : Rule → Shape
+nothing r = shape r Unused Unused Unused
+
 abbrev pub shape_of : Rule → Shape
-shape_of CiteRule = shape CiteRule Serial World Unused
-shape_of CiteSaying = shape CiteSaying Serial Unused Unused
-shape_of Not = shape Not Fact Unused Unused
-shape_of AndTrue = shape AndTrue Fact Unused Unused
-shape_of AndFalse = shape AndFalse Fact Unused Unused
-shape_of SaysTrue = shape SaysTrue Fact Link Unused
-shape_of SaysFalse = shape SaysFalse Fact Unused Unused
-shape_of SpeaksForTrue = shape SpeaksForTrue Fact Link Unused
-shape_of SpeaksForFalse = shape SpeaksForFalse Fact Unused Unused
-shape_of BothLinked = shape BothLinked Link Unused Unused
-shape_of QuotingLinked = shape QuotingLinked Link Unused Unused
-shape_of IntoBoth = shape IntoBoth Link Row Unused
-shape_of IntoQuoting = shape IntoQuoting Link Link Row
-shape_of FactsClash = shape FactsClash Fact Fact Unused
-shape_of LinksClash = shape LinksClash Link Link Unused
+shape_of r = get_or shapes (code r - 1) (nothing r)
 
-known : (r : Rule) (s : Shape) → (shape_of r).rule ≡ r → Some (shape_of r) ≡ Some s → (code r ≡ code s.rule) × (s ≡ shape_of s.rule)
-known r s own e =
-    let is : shape_of r ≡ s = cc in
-    let rule : s.rule ≡ r = ap (λ t. t.rule) (sym is) ∙ own in
-    (ap code (sym rule), sym is ∙ ap shape_of (sym rule))
-
-numbered : (i : ℕ) (s : Shape) → slice_get shapes i ≡ Some s → (i + 1 ≡ code s.rule) × (s ≡ shape_of s.rule)
-numbered zero s e = known CiteRule s refl e
-numbered (suc zero) s e = known CiteSaying s refl e
-numbered (suc (suc zero)) s e = known Not s refl e
-numbered (suc (suc (suc zero))) s e = known AndTrue s refl e
-numbered (suc (suc (suc (suc zero)))) s e = known AndFalse s refl e
-numbered (suc (suc (suc (suc (suc zero))))) s e = known SaysTrue s refl e
-numbered (suc (suc (suc (suc (suc (suc zero)))))) s e = known SaysFalse s refl e
-numbered (suc (suc (suc (suc (suc (suc (suc zero))))))) s e = known SpeaksForTrue s refl e
-numbered (suc (suc (suc (suc (suc (suc (suc (suc zero)))))))) s e = known SpeaksForFalse s refl e
-numbered (suc (suc (suc (suc (suc (suc (suc (suc (suc zero))))))))) s e = known BothLinked s refl e
-numbered (suc (suc (suc (suc (suc (suc (suc (suc (suc (suc zero)))))))))) s e = known QuotingLinked s refl e
-numbered (suc (suc (suc (suc (suc (suc (suc (suc (suc (suc (suc zero))))))))))) s e = known IntoBoth s refl e
-numbered (suc (suc (suc (suc (suc (suc (suc (suc (suc (suc (suc (suc zero)))))))))))) s e = known IntoQuoting s refl e
-numbered (suc (suc (suc (suc (suc (suc (suc (suc (suc (suc (suc (suc (suc zero))))))))))))) s e = known FactsClash s refl e
-numbered (suc (suc (suc (suc (suc (suc (suc (suc (suc (suc (suc (suc (suc (suc zero)))))))))))))) s e = known LinksClash s refl e
-numbered (suc (suc (suc (suc (suc (suc (suc (suc (suc (suc (suc (suc (suc (suc (suc i))))))))))))))) s e = cc
+-- the codes of the table are the numbers from 1 on
+numbered : (i : ℕ) (s : Shape) → slice_get shapes i ≡ Some s → code s.rule ≡ i + 1
+numbered i s e =
+    let within = slice_get_within shapes i s e in
+    let found : slice_get (range_with_len 1 15) i ≡ Some (code s.rule) = slice_get-map (λ (t : Shape). code t.rule) shapes i ∙ ap (option_map (λ (t : Shape). code t.rule)) e in
+    omega (arith, get_or_from_slice_get (range_with_len 1 15) i (code s.rule) 0 found, get_or-range_with_len 1 15 i 0 within)
 
 pub record Shaped (l : Line) (s : Shape) : Type 0 where
   pub coded : l.code ≡ code s.rule
@@ -74,20 +52,24 @@ pub record Shaped (l : Line) (s : Shape) : Type 0 where
   pub b_idle : idle s.b l.b ≡ true
   pub c_idle : idle s.c l.c ≡ true
 
-idle_some : (l : Line) (o : Option Shape) (s : Shape) → if_idle l o ≡ Some s → (o ≡ Some s) × ((idle s.a l.a && (idle s.b l.b && idle s.c l.c)) ≡ true)
+abbrev idles : Line → Shape → Bool
+idles l s = idle s.a l.a && (idle s.b l.b && idle s.c l.c)
+
+idle_some : (l : Line) (o : Option Shape) (s : Shape) → if_idle l o ≡ Some s → (o ≡ Some s) × (idles l s ≡ true)
 idle_some l None s e = cc
-idle_some l (Some r) s e = go (idle r.a l.a && (idle r.b l.b && idle r.c l.c)) refl e
-  where
-    go : (fit : Bool) → (idle r.a l.a && (idle r.b l.b && idle r.c l.c)) ≡ fit → cond fit (Some r) None ≡ Some s → (Some r ≡ Some s) × ((idle s.a l.a && (idle s.b l.b && idle s.c l.c)) ≡ true)
-    go true h found = let is : r ≡ s = cc in (found, sym (ap (λ t. idle t.a l.a && (idle t.b l.b && idle t.c l.c)) is) ∙ h)
-    go false h found = cc
+idle_some l (Some r) s e =
+    let h = cond_some (idles l r) r s e in
+    (ap Some h.1, subst (λ t. idles l t ≡ true) h.1 h.0)
 
 shape_found : (n : ℕ) (s : Shape) → shape_numbered n ≡ Some s → (n ≡ code s.rule) × (s ≡ shape_of s.rule)
-shape_found n s e = go (eqb n 0) refl e
-  where
-    go : (none : Bool) → eqb n 0 ≡ none → cond none None (slice_get shapes (n - 1)) ≡ Some s → (n ≡ code s.rule) × (s ≡ shape_of s.rule)
-    go true h found = cc
-    go false h found = let at = numbered (n - 1) s found in (omega (arith, eqb-false n 0 h, at.0), at.1)
+shape_found n s e =
+    cond_both (eqb n 0) None (slice_get shapes (n - 1)) (λ o. o ≡ Some s → (n ≡ code s.rule) × (s ≡ shape_of s.rule))
+    (λ _ none. cc)
+    (λ is found.
+    let coded = numbered (n - 1) s found in
+    let place : code s.rule - 1 ≡ n - 1 = omega (arith, coded) in
+    (omega (arith, eqb-false n 0 is, coded), sym (get_or_from_slice_get shapes (code s.rule - 1) s (nothing s.rule) (ap (slice_get shapes) place ∙ found))))
+    e
 
 pub shaped_so : (l : Line) (s : Shape) → shaped l ≡ Some s → Shaped l s
 shaped_so l s e =

@@ -4,7 +4,9 @@
 -- Waiting b ks             each of the forks ks fits, and what it goes back to is numbered
 -- Stacked g M b ks         no assignment models any of the branches that the forks ks go back to
 use Rattle.std.proofs.Common.{◌≡◌, ℕ, ◌<◌, ◌≤◌, List, [], ◌∷◌, length, Some, sym, refl, ◌∙◌, subst, ap₂, append-nil, add-zero, arith, length-append}
-use lib.Seq.{take-append-le, take-length}
+use Rattle.std.proofs.Math.Seq.{take-length}
+use Rattle.std.proofs.lemmas.List.{take-append-le}
+use Rattle.std.proofs.lemmas.List.Elements.{All-from_recursion}
 use Rattle.terms.specs.Laws.{SoundRows}
 use Rattle.terms.specs.Truth.{Structure, Holds, Settled, structure}
 use Rattle.terms.specs.Written.{Statement, statement_written}
@@ -14,15 +16,16 @@ use Rattle.rules.specs.declared.branch.Fork.{Fork}
 use Rattle.rules.specs.declared.branch.Link.{Link}
 use Rattle.rules.specs.declared.branch.Side.{Side}
 use Rattle.rules.specs.declared.branch.Side.TheVariants as sides
+use Rattle.rules.specs.declared.branch.Sign.TheVariants.{False}
 use Rattle.rules.specs.declared.line.Line.{Line}
-use Rattle.rules.specs.Branches.{Branch, branch, start, Effect, adds, forks, closes, Progress, going, with_side, fork, back, moved}
+use Rattle.rules.specs.Branches.{fact, Branch, branch, start, Effect, adds, forks, closes, Progress, going, with_side, fork, back, moved}
 use Rattle.soundness.specs.Given.{Given}
 use Rattle.soundness.specs.Follows.{RulesHold, SayingsHold}
 use Rattle.soundness.specs.Laws.{Sound}
 use Rattle.soundness.specs.ProofFiles.{Keeps}
 use Rattle.soundness.specs.Rules.{Completes}
-use Rattle.soundness.proofs.Truths.{sentence, stable, named_sentence}
-use Rattle.soundness.proofs.Assignments.{added, Numbered, Unsatisfied}
+use Rattle.soundness.proofs.Truths.{FactTrue, LinkTrue, sentence, stable, named_sentence}
+use Rattle.soundness.proofs.Assignments.{added, FactBelow, LinkBelow, Numbered, Unsatisfied}
 use Rattle.soundness.proofs.Steps.{side_facts, side_links, beside, Step, allowed}
 
 abbrev Fits : Branch → Fork → Type 0
@@ -91,10 +94,13 @@ module _ {W : Type 0} (M : Structure W) (settled : Settled M) (g : Given) (rows 
   -- if s failed at the start, the first branch, "r false at 0", would have a model
   pub completes_follows : (r : ℕ) (ls : List Line) → r < length g.rows.statements → Completes g ok (going (start r) []) ls → (s : Statement) → statement_written g.rows r ≡ Some s → Holds M s M.start
   completes_follows r ls named c s written =
-      let none = refuted ls (start r) [] (record { some = omega arith; below = omega arith }) tt c in
+      let first = fact False r 0 ∷ [] in
+      let ρ : ℕ → W = (λ _. M.start) in
+      let numbered : Numbered (start r) = record { some = omega arith; below = (All-from_recursion (FactBelow 1) first (omega arith), All-from_recursion (LinkBelow 1) [] tt) } in
+      let none = refuted ls (start r) [] numbered tt c in
       let found = named_sentence g r named in
       let same : sentence g r ≡ s = cc in
-      stable (settled.statements s M.start) (λ fails. none.0 (λ _. M.start) (record { root = refl; true = ((λ t. fails (subst (λ x. Holds M x M.start) same t), tt), tt) }))
+      stable (settled.statements s M.start) (λ fails. none.0 ρ (record { root = refl; true = (All-from_recursion (FactTrue g M ρ) first ((λ t. fails (subst (λ x. Holds M x M.start) same t)), tt), All-from_recursion (LinkTrue g M ρ) [] tt) }))
 
   pub keeps_follows_in : (most : ℕ) (bytes : List ℕ) (r : ℕ) → Keeps g ok most bytes r → (s : Statement) → statement_written g.rows r ≡ Some s → Holds M s M.start
   keeps_follows_in most bytes r keeps s written = completes_follows r keeps.lines keeps.named keeps.completes s written

@@ -2,18 +2,18 @@
 --
 -- side_facts s, side_links s    the fact or the link of the alternative s
 -- beside b s                    the branch b with the alternative s
--- SideBelow n s                the alternative s is of worlds below the number n
--- SideTrue g M ρ s             the alternative s is right in M under the assignment ρ
+-- SideBelow n s                 the alternative s is of worlds below the number n
+-- SideTrue g M ρ s              the alternative s is right in M under the assignment ρ
 -- Explained g M b fs ls         whatever models the branch b, it cannot be that no assignment agreeing with it on the worlds of b makes the facts fs and the links ls right
 -- Step g M b e                  what the effect e makes of the branch b is numbered, and if no assignment models that, none models b
-use Rattle.std.proofs.Common.{◌≡◌, ℕ, zero, suc, ◌+◌, ◌<◌, List, [], ◌∷◌, Some, sym, refl, ◌∙◌, subst, subst₂, inl, inr, arith}
-use Rattle.std.specs.List.{slice_get, AllByRecursion}
+use Rattle.std.proofs.Common.{◌≡◌, ℕ, ◌+◌, ◌<◌, List, [], ◌∷◌, Some, sym, refl, ◌∙◌, subst, subst₂, inl, inr, arith}
+use Rattle.std.specs.List.{slice_get, All}
+use Rattle.std.proofs.lemmas.Option.{slice_get_within, get_or_from_slice_get}
 use Rattle.terms.specs.declared.row.PrincipalRow.{PrincipalRow}
 use Rattle.terms.specs.declared.row.StatementRow.{StatementRow}
 use Rattle.terms.specs.Laws.{SoundRows}
 use Rattle.terms.specs.Truth.{Structure, Pair, Holds, Settled}
 use Rattle.terms.specs.Written.{statement_written}
-use Rattle.terms.proofs.Nths.{nth_below}
 use Rattle.book.specs.declared.entry.Standing.{Standing}
 use Rattle.rules.specs.declared.branch.Fact.{Fact}
 use Rattle.rules.specs.declared.branch.Link.{Link}
@@ -22,12 +22,12 @@ use Rattle.rules.specs.declared.branch.Side.TheVariants as sides
 use Rattle.rules.specs.declared.branch.Sign.{Sign}
 use Rattle.rules.specs.declared.branch.Sign.TheVariants.{True, False}
 use Rattle.rules.specs.declared.line.Line.{Line}
-use Rattle.rules.specs.Branches.{fact, link, Branch, Effect, adds, forks, closes}
+use Rattle.rules.specs.Branches.{Branch, Effect, adds, forks, closes}
 use Rattle.soundness.specs.Given.{Given, StatementIs, PrincipalIs, Live}
 use Rattle.soundness.specs.Follows.{RulesHold, SayingsHold}
 use Rattle.soundness.specs.Rules.{HasFact, HasLink, Allows, cite_rule, cite_saying, by_not, and_true, and_false, says_true, says_false, speaks_for_true, speaks_for_false, both_linked, quoting_linked, into_both_left, into_both_right, into_quoting, facts_clash, links_clash}
 use Rattle.soundness.proofs.Truths.{sentence, principal, sentence_by, principal_by, TrueAt, Linked, Signed, FactTrue, LinkTrue, stable, named_sentence, sentence_is, principal_is}
-use Rattle.soundness.proofs.Assignments.{added, FactBelow, LinkBelow, Below, AllTrue, Numbered, Models, Unsatisfied, Agree, extend, extend_here, extend_below, numbered_added, models_added}
+use Rattle.soundness.proofs.Assignments.{added, FactBelow, LinkBelow, NewBelow, NewTrue, Numbered, Models, Unsatisfied, Agree, extend, extend_here, extend_below, numbered_added, models_added}
 
 abbrev pub side_facts : Side → List Fact
 side_facts (sides.Fact f) = f ∷ []
@@ -41,14 +41,14 @@ abbrev pub beside : Branch → Side → Branch
 beside b s = added b 0 (side_facts s) (side_links s)
 
 abbrev SideBelow : ℕ → Side → Type 0
-SideBelow n s = Below n (side_facts s) (side_links s)
+SideBelow n s = NewBelow n (side_facts s) (side_links s)
 
 abbrev SideTrue : {W : Type 0} → Given → Structure W → (ℕ → W) → Side → Type 0
-SideTrue g M ρ s = AllTrue g M ρ (side_facts s) (side_links s)
+SideTrue g M ρ s = NewTrue g M ρ (side_facts s) (side_links s)
 
 abbrev Explained : {W : Type 0} → Given → Structure W → Branch → List Fact → List Link → Type 0
 Explained {W} g M b fs ls =
-    (ρ : ℕ → W) → Models g M ρ b → ((σ : ℕ → W) → Agree b.worlds ρ σ → AllTrue g M σ fs ls → ⊥) → ⊥
+    (ρ : ℕ → W) → Models g M ρ b → ((σ : ℕ → W) → Agree b.worlds ρ σ → NewTrue g M σ fs ls → ⊥) → ⊥
 
 abbrev pub Step : {W : Type 0} → Given → Structure W → Branch → Effect → Type 0
 Step g M b (adds n fs ls) = Numbered (added b n fs ls) × (Unsatisfied g M (added b n fs ls) → Unsatisfied g M b)
@@ -56,18 +56,16 @@ Step g M b (forks x y) =
     Numbered (beside b x) × Numbered (beside b y) × (Unsatisfied g M (beside b x) → Unsatisfied g M (beside b y) → Unsatisfied g M b)
 Step g M b closes = Unsatisfied g M b
 
-all_nth : {X : Type 0} (P : X → Type 0) (xs : List X) (k : ℕ) (x : X) → AllByRecursion P xs → slice_get xs k ≡ Some x → P x
-all_nth P [] k x h e = let z : ◌≡◌ {A = ℕ} 0 1 = cc in absurd (omega arith)
-all_nth P (y ∷ ys) zero x h e = let same : y ≡ x = cc in subst P same h.0
-all_nth P (y ∷ ys) (suc k) x h e = all_nth P ys k x h.1 e
+all_nth : {X : Type 0} (P : X → Type 0) (xs : List X) (k : ℕ) (x : X) → All P xs → slice_get xs k ≡ Some x → P x
+all_nth P xs k x h e = subst P (get_or_from_slice_get xs k x x e) (h k x (slice_get_within xs k x e))
 
 module _ (g : Given) (sound : SoundRows g.rows) {W : Type 0} (M : Structure W) (settled : Settled M) (rules : RulesHold M g) (sayings : SayingsHold M g) (b : Branch) (numbered : Numbered b) where
-  adding : {e : Effect} {n : ℕ} {fs : List Fact} {ls : List Link} → e ≡ adds n fs ls → Below (b.worlds + n) fs ls → Explained g M b fs ls → Step g M b e
+  adding : {e : Effect} {n : ℕ} {fs : List Fact} {ls : List Link} → e ≡ adds n fs ls → NewBelow (b.worlds + n) fs ls → Explained g M b fs ls → Step g M b e
   adding {e} {n} {fs} {ls} eq new explained =
       subst (Step g M b) (sym eq) (numbered_added b n fs ls numbered new, λ none ρ m. explained ρ m (λ σ agree true. none σ (models_added g M b n fs ls ρ σ numbered m agree true)))
 
   -- with no new world the assignment stays
-  staying : {e : Effect} {fs : List Fact} {ls : List Link} → e ≡ adds 0 fs ls → Below (b.worlds + 0) fs ls → ((ρ : ℕ → W) → Models g M ρ b → AllTrue g M ρ fs ls) → Step g M b e
+  staying : {e : Effect} {fs : List Fact} {ls : List Link} → e ≡ adds 0 fs ls → NewBelow (b.worlds + 0) fs ls → ((ρ : ℕ → W) → Models g M ρ b → NewTrue g M ρ fs ls) → Step g M b e
   staying eq new right = adding eq new (λ ρ m go. go ρ (λ k h. refl) (right ρ m))
 
   forking : {e : Effect} {x y : Side} → e ≡ forks x y → SideBelow (b.worlds + 0) x → SideBelow (b.worlds + 0) y → ((ρ : ℕ → W) → Models g M ρ b → (SideTrue g M ρ x → ⊥) → (SideTrue g M ρ y → ⊥) → ⊥) → Step g M b e
@@ -84,16 +82,16 @@ module _ (g : Given) (sound : SoundRows g.rows) {W : Type 0} (M : Structure W) (
   closing eq none = subst (Step g M b) (sym eq) none
 
   fact_within : (k : ℕ) {n w : ℕ} {sign : Sign} → HasFact b k sign n w → w < b.worlds
-  fact_within k {n} {w} {sign} has = all_nth (FactBelow b.worlds) b.facts k (fact sign n w) numbered.below.0 has
+  fact_within k has = all_nth (FactBelow b.worlds) b.facts k _ numbered.below.0 has
 
   link_within : (k : ℕ) {n w v : ℕ} {sign : Sign} → HasLink b k sign n w v → (w < b.worlds) × (v < b.worlds)
-  link_within k {n} {w} {v} {sign} has = all_nth (LinkBelow b.worlds) b.links k (link sign n w v) numbered.below.1 has
+  link_within k has = all_nth (LinkBelow b.worlds) b.links k _ numbered.below.1 has
 
   fact_true : (ρ : ℕ → W) → Models g M ρ b → (k : ℕ) {n w : ℕ} {sign : Sign} → HasFact b k sign n w → Signed sign (TrueAt g M n (ρ w))
-  fact_true ρ m k {n} {w} {sign} has = all_nth (FactTrue g M ρ) b.facts k (fact sign n w) m.true.0 has
+  fact_true ρ m k has = all_nth (FactTrue g M ρ) b.facts k _ m.true.0 has
 
   link_true : (ρ : ℕ → W) → Models g M ρ b → (k : ℕ) {n w v : ℕ} {sign : Sign} → HasLink b k sign n w v → Signed sign (Linked g M n (ρ w) (ρ v))
-  link_true ρ m k {n} {w} {v} {sign} has = all_nth (LinkTrue g M ρ) b.links k (link sign n w v) m.true.1 has
+  link_true ρ m k has = all_nth (LinkTrue g M ρ) b.links k _ m.true.1 has
 
   -- the same by the parts of the row
   fact_parts : (ρ : ℕ → W) → Models g M ρ b → (k : ℕ) {n w : ℕ} {sign : Sign} {r : StatementRow} → HasFact b k sign n w → StatementIs g n r → Signed sign (Holds M (sentence_by g r) (ρ w))
@@ -108,7 +106,7 @@ module _ (g : Given) (sound : SoundRows g.rows) {W : Type 0} (M : Structure W) (
   link_whole n {r} is x y h = subst (λ p. Pair M p x y) (sym (principal_is g sound n r is)) h
 
   live_written : {standing : Standing} {serial n : ℕ} → Live g standing serial n → statement_written g.rows n ≡ Some (sentence g n)
-  live_written {n} live = named_sentence g n (nth_below g.rows.statements n live.named.0 live.named.1)
+  live_written {n} live = named_sentence g n (slice_get_within g.rows.statements n live.named.0 live.named.1)
 
   pub allowed : (l : Line) (e : Effect) → Allows g b l e → Step g M b e
   allowed l e (cite_rule serial n w _ within live eq) =

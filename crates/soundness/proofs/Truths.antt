@@ -4,11 +4,11 @@
 -- principal g n              what the principal row n writes out to
 -- sentence_by g r            what the row r writes out to, by the sentences and principals of its parts
 -- principal_by g r           the same of a principal's row
--- TrueAt g M n w            the statement row n holds at the world w of M
+-- TrueAt g M n w             the statement row n holds at the world w of M
 -- Linked g M n w v           the pair (w, v) of worlds of M is one of the principal row n
 -- Signed sign A              A, or that A fails
--- FactTrue g M ρ f          the fact f is right in M, where ρ says which world each number stands for
--- LinkTrue g M ρ l          the link l is right in M
+-- FactTrue g M ρ f           the fact f is right in M, where ρ says which world each number stands for
+-- LinkTrue g M ρ l           the link l is right in M
 use Rattle.std.proofs.Common.{◌≡◌, ℕ, ◌<◌, List, length, Some, arith}
 use Rattle.std.proofs.lemmas.Option.{slice_get-get_or, get_or_from_slice_get}
 use Rattle.terms.specs.declared.row.PrincipalRow.{PrincipalRow}

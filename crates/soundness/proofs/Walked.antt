@@ -1,7 +1,8 @@
 -- A line that is walked is allowed by the rules.
-use Rattle.std.proofs.Common.{◌≡◌, ℕ, ◌+◌, true, ◌&&◌, eqb, [], ◌∷◌, is_some, Some, None, Ok, Option, sym, refl, ap, ◌∙◌, subst, inl, inr}
+use Rattle.std.proofs.Common.{◌≡◌, ℕ, ◌+◌, true, ◌&&◌, eqb, [], ◌∷◌, is_some, Some, None, Ok, Option, sym, refl, ap, ◌∙◌, subst, inl, inr, arith}
 use Rattle.std.specs.List.{slice_get}
 use Rattle.std.proofs.lemmas.Bool.{and_parts, or_cases, eqb-true, ltb-true}
+use Rattle.std.proofs.lemmas.Bool.Decides.{nat_tests}
 use Rattle.std.proofs.lemmas.Option.{same_Some, cond_some}
 use Rattle.denials.specs.Denials.{denied}
 use Rattle.terms.specs.declared.row.PrincipalRow.{PrincipalRow}
@@ -27,11 +28,11 @@ use Rattle.rules.specs.Shapes.{shaped}
 use Rattle.soundness.specs.Given.{Given, Live}
 use Rattle.soundness.specs.Rules.{line, HasFact, HasLink, Allows, cite_rule, cite_saying, by_not, and_true, and_false, says_true, says_false, speaks_for_true, speaks_for_false, both_linked, quoting_linked, into_both_left, into_both_right, into_quoting, facts_clash, links_clash}
 use Rattle.soundness.specs.Walking.{operand, cites, cite_entry, cited, line_move}
-use Rattle.soundness.proofs.Inversions.{on_some, ok_or_ok, true_some, false_some, row_some, fact_some, link_some, named_some, not_some, and_some, says_some, speaks_some, both_some, quoting_some, fact_cited, link_cited, row_cited}
+use Rattle.soundness.proofs.Inversions.{on_some, ok_or_ok, test_some, true_some, false_some, row_some, fact_some, link_some, named_some, not_some, and_some, says_some, speaks_some, both_some, quoting_some, fact_cited, link_cited, row_cited}
 use Rattle.soundness.proofs.Shaping.{code, shape_of, Shaped, shaped_so}
 
 -- what the operands of a line cite, where it does the move m
-pub record Cited (g : Given) (b : Branch) (s : Shape) (l : Line) (m : Move) : Type 0 where
+pub record Operands (g : Given) (b : Branch) (s : Shape) (l : Line) (m : Move) : Type 0 where
   pub x : Operand
   pub y : Operand
   pub z : Operand
@@ -42,30 +43,20 @@ pub record Cited (g : Given) (b : Branch) (s : Shape) (l : Line) (m : Move) : Ty
   pub entry : cited g s.rule x ≡ Some o
   pub fit : fits s.rule o y z b.worlds (b.worlds + 1) ≡ Some m
 
-pub move_cited : (g : Given) (b : Branch) (s : Shape) (l : Line) (n : ℕ) (m : Move) → line_move g b s l n ≡ Ok m → Cited g b s l m
+pub move_cited : (g : Given) (b : Branch) (s : Shape) (l : Line) (n : ℕ) (m : Move) → line_move g b s l n ≡ Ok m → Operands g b s l m
 move_cited g b s l n m e =
-    let x = on_some (denied 22 n) (operand g.rows b s.a l.a) _ m e in
-    let y = on_some (denied 22 n) (operand g.rows b s.b l.b) _ m x.1.1 in
-    let z = on_some (denied 22 n) (operand g.rows b s.c l.c) _ m y.1.1 in
-    let o = on_some (denied 23 n) (cited g s.rule x.0) _ m z.1.1 in
-    record {
-      x = x.0;
-      y = y.0;
-      z = z.0;
-      o = o.0;
-      first = x.1.0;
-      second = y.1.0;
-      third = z.1.0;
-      entry = o.1.0;
-      fit = ok_or_ok (fits s.rule o.0 y.0 z.0 b.worlds (b.worlds + 1)) (denied 24 n) m o.1.1;
-    }
+    let (x, (first, e₁)) = on_some (denied 22 n) (operand g.rows b s.a l.a) _ m e in
+    let (y, (second, e₂)) = on_some (denied 22 n) (operand g.rows b s.b l.b) _ m e₁ in
+    let (z, (third, e₃)) = on_some (denied 22 n) (operand g.rows b s.c l.c) _ m e₂ in
+    let (o, (entry, e₄)) = on_some (denied 23 n) (cited g s.rule x) _ m e₃ in
+    record { x = x; y = y; z = z; o = o; first = first; second = second; third = third; entry = entry; fit = ok_or_ok _ (denied 24 n) m e₄ }
 
 -- two or three tests of equal numbers
 same_two : (a b c d : ℕ) → (eqb a b && eqb c d) ≡ true → (a ≡ b) × (c ≡ d)
-same_two a b c d e = let h = and_parts (eqb a b) (eqb c d) e in (eqb-true a b h.0, eqb-true c d h.1)
+same_two a b c d e = grind (arith, nat_tests)
 
 same_three : (a b c d n m : ℕ) → (eqb a b && (eqb c d && eqb n m)) ≡ true → (a ≡ b) × ((c ≡ d) × (n ≡ m))
-same_three a b c d n m e = let h = and_parts (eqb a b) (eqb c d && eqb n m) e in (eqb-true a b h.0, same_two c d n m h.1)
+same_three a b c d n m e = grind (arith, nat_tests)
 
 line_is : (l : Line) (k a b c : ℕ) → l.code ≡ k → l.a ≡ a → l.b ≡ b → l.c ≡ c → l ≡ line k a b c
 line_is l k a b c p q r s = λ i. record { code = p i; a = q i; b = r i; c = s i }
@@ -101,19 +92,19 @@ module _ (g : Given) (b : Branch) (l : Line) (m : Move) where
   u = b.worlds + 1
 
   -- the fact, the link or the entry that is cited first, and what then fits
-  first_fact : (s : Shape) → s.a ≡ uses.Fact → (c : Cited g b s l m) → (f : Fact) × ((slice_get b.facts l.a ≡ Some f) × (fits_fact s.rule f (slice_get g.rows.statements f.row) c.y v u ≡ Some m))
+  first_fact : (s : Shape) → s.a ≡ uses.Fact → (c : Operands g b s l m) → (f : Fact) × ((slice_get b.facts l.a ≡ Some f) × (fits_fact s.rule f (slice_get g.rows.statements f.row) c.y v u ≡ Some m))
   first_fact s used c =
       let f = fact_cited g c.x (slice_get b.facts l.a) (subst (λ t. operand g.rows b t l.a ≡ Some c.x) used c.first) in
       let same : c.o ≡ operands.Fact f.0 (slice_get g.rows.statements f.0.row) = same_Some _ _ (sym c.entry ∙ ap (cited g s.rule) f.1.1) in
       (f.0, (f.1.0, subst (λ o. fits s.rule o c.y c.z v u ≡ Some m) same c.fit))
 
-  first_link : (s : Shape) → s.a ≡ uses.Link → (c : Cited g b s l m) → (k : Link) × ((slice_get b.links l.a ≡ Some k) × (fits_link s.rule k (slice_get g.rows.principals k.row) c.y c.z v ≡ Some m))
+  first_link : (s : Shape) → s.a ≡ uses.Link → (c : Operands g b s l m) → (k : Link) × ((slice_get b.links l.a ≡ Some k) × (fits_link s.rule k (slice_get g.rows.principals k.row) c.y c.z v ≡ Some m))
   first_link s used c =
       let k = link_cited g c.x (slice_get b.links l.a) (subst (λ t. operand g.rows b t l.a ≡ Some c.x) used c.first) in
       let same : c.o ≡ operands.Link k.0 (slice_get g.rows.principals k.0.row) = same_Some _ _ (sym c.entry ∙ ap (cited g s.rule) k.1.1) in
       (k.0, (k.1.0, subst (λ o. fits s.rule o c.y c.z v u ≡ Some m) same c.fit))
 
-  first_entry : (s : Shape) (standing : Standing) → s.a ≡ uses.Serial → ((t : Standing) → cites s.rule t ≡ true → t ≡ standing) → (c : Cited g b s l m) → (n : ℕ) × (Live g standing l.a n × (fits s.rule (operands.Entry n) c.y c.z v u ≡ Some m))
+  first_entry : (s : Shape) (standing : Standing) → s.a ≡ uses.Serial → ((t : Standing) → cites s.rule t ≡ true → t ≡ standing) → (c : Operands g b s l m) → (n : ℕ) × (Live g standing l.a n × (fits s.rule (operands.Entry n) c.y c.z v u ≡ Some m))
   first_entry s standing used only c =
       let serial : operands.Serial l.a ≡ c.x = same_Some _ _ (subst (λ t. operand g.rows b t l.a ≡ Some c.x) used c.first) in
       let n = entry_live g s.rule standing l.a c.o only (ap (cited g s.rule) serial ∙ c.entry) in
@@ -160,7 +151,7 @@ module _ (g : Given) (b : Branch) (l : Line) (m : Move) where
   does : (x : Move) → Some x ≡ Some m → effect m ≡ effect x
   does x e = ap effect (sym (same_Some x m e))
 
-  pub rule_allows : (r : Code) → l.code ≡ code r → Shaped l (shape_of r) → Cited g b (shape_of r) l m → Allows g b l (effect m)
+  pub rule_allows : (r : Code) → l.code ≡ code r → Shaped l (shape_of r) → Operands g b (shape_of r) l m → Allows g b l (effect m)
   rule_allows codes.CiteRule coded s c =
       let n = first_entry _ Rule refl only_rules c in
       let w = cond_some _ (operands.World l.b) c.y c.second in
@@ -189,7 +180,7 @@ module _ (g : Given) (b : Branch) (l : Line) (m : Move) where
       let (p, (t, (row, on))) = says_some _ _ m rest in
       let (k, (r, (is, then))) = link_some c.y _ m on in
       let (also, tested) = true_some _ _ m then in
-      let (test, done) = cond_some _ _ m tested in
+      let (test, done) = test_some _ _ m tested in
       let (named, there) = same_two k.row p k.from f.world test in
       says_true l.a l.b f.row p t f.world k.to (binary 6 coded s.c_idle) (has_fact l.a f True _ _ at sign refl refl) row
       (has_link l.b k True p f.world k.to (link_at l.b c.y k r c.second is) also named there refl) (ap effect (sym done))
@@ -204,7 +195,7 @@ module _ (g : Given) (b : Branch) (l : Line) (m : Move) where
       let (p, (q, (row, on))) = speaks_some _ _ m rest in
       let (k, (r, (is, then))) = link_some c.y _ m on in
       let (also, tested) = true_some _ _ m then in
-      let (test, done) = cond_some _ _ m tested in
+      let (test, done) = test_some _ _ m tested in
       speaks_for_true l.a l.b f.row p q f.world k.from k.to (binary 8 coded s.c_idle) (has_fact l.a f True _ _ at sign refl refl) row
       (has_link l.b k True q k.from k.to (link_at l.b c.y k r c.second is) also (eqb-true k.row q test) refl refl) (ap effect (sym done))
   rule_allows codes.SpeaksForFalse coded s c =
@@ -229,7 +220,7 @@ module _ (g : Given) (b : Branch) (l : Line) (m : Move) where
       let (sign, rest) = true_some _ _ m fit in
       let (n, (r, (is, then))) = named_some c.y _ m rest in
       let (p, (q, (parts, tested))) = both_some r _ m then in
-      let (test, done) = cond_some _ _ m tested in
+      let (test, done) = test_some _ _ m tested in
       let (number, named) = row_at l.b c.y n r c.second is in
       let row = named ∙ ap Some parts in
       let effects = ap effect (sym done) ∙ ap (λ i. adds 0 [] (link True i k.from k.to ∷ [])) number in
@@ -244,7 +235,7 @@ module _ (g : Given) (b : Branch) (l : Line) (m : Move) where
       let (also, on) = true_some _ _ m then in
       let (n, (r, (whole, further))) = named_some c.z _ m on in
       let (p, (q, (parts, tested))) = quoting_some r _ m further in
-      let (test, done) = cond_some _ _ m tested in
+      let (test, done) = test_some _ _ m tested in
       let (left, (right, joined)) = same_three k.row p j.row q k.to j.from test in
       let (number, named) = row_at l.c c.z n r c.third whole in
       into_quoting l.a l.b l.c p q k.from k.to j.to (line_is l 13 l.a l.b l.c coded refl refl refl)
@@ -256,7 +247,7 @@ module _ (g : Given) (b : Branch) (l : Line) (m : Move) where
       let (sign, rest) = true_some _ _ m fit in
       let (h, (r, (is, then))) = fact_some c.y _ m rest in
       let (also, tested) = false_some _ _ m then in
-      let (test, done) = cond_some _ _ m tested in
+      let (test, done) = test_some _ _ m tested in
       let (row, there) = same_two f.row h.row f.world h.world test in
       facts_clash l.a l.b f.row f.world (binary 14 coded s.c_idle) (has_fact l.a f True _ _ at sign refl refl)
       (has_fact l.b h False _ _ (fact_at l.b c.y h r c.second is) also (sym row) (sym there)) (ap effect (sym done))
@@ -265,7 +256,7 @@ module _ (g : Given) (b : Branch) (l : Line) (m : Move) where
       let (sign, rest) = true_some _ _ m fit in
       let (j, (r, (is, then))) = link_some c.y _ m rest in
       let (also, tested) = false_some _ _ m then in
-      let (test, done) = cond_some _ _ m tested in
+      let (test, done) = test_some _ _ m tested in
       let (row, (start, end)) = same_three k.row j.row k.from j.from k.to j.to test in
       links_clash l.a l.b k.row k.from k.to (binary 15 coded s.c_idle) (has_link l.a k True _ _ _ at sign refl refl refl)
       (has_link l.b j False _ _ _ (link_at l.b c.y j r c.second is) also (sym row) (sym start) (sym end)) (ap effect (sym done))
@@ -273,4 +264,4 @@ module _ (g : Given) (b : Branch) (l : Line) (m : Move) where
 pub walked_allows : (g : Given) (b : Branch) (l : Line) (s : Shape) (m : Move) (n : ℕ) → shaped l ≡ Some s → line_move g b s l n ≡ Ok m → Allows g b l (effect m)
 walked_allows g b l s m n shapes moves =
     let so = shaped_so l s shapes in
-    rule_allows g b l m s.rule so.coded (subst (Shaped l) so.is so) (subst (λ t. Cited g b t l m) so.is (move_cited g b s l n m moves))
+    rule_allows g b l m s.rule so.coded (subst (Shaped l) so.is so) (subst (λ t. Operands g b t l m) so.is (move_cited g b s l n m moves))

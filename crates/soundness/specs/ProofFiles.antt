@@ -11,7 +11,7 @@
 -- file_of r ls                the bytes of a proof of the statement row r by the lines ls
 -- SameBytes                   two files of bytes that are laid out as a proof of the same request by the same lines are the same bytes
 use Rattle.std.specs.Prelude.{◌≡◌, ℕ, zero, suc, ◌+◌, ◌*◌, ◌/◌, ◌%◌, ◌<◌, ◌≤◌, cond, List, [], ◌∷◌, ◌++◌, length, Some, Ok, Err, Result, nat_le}
-use Rattle.std.specs.List.{slice_get, AllByRecursion}
+use Rattle.std.specs.List.{slice_get, All}
 use Rattle.denials.specs.declared.denial.Denial.{Denial}
 use Rattle.denials.specs.Denials.{denied}
 use Rattle.files.specs.Heads.{byte, number, head_read, request_named, count_within, long_as, Headed}
@@ -76,5 +76,5 @@ file_of r ls = (80 ∷ 77 ∷ 84 ∷ 0 ∷ 1 ∷ 1 ∷ []) ++ (two_bytes r ++ (t
 
 abbrev pub SameBytes : Type 0
 SameBytes =
-    (most r : ℕ) (ls : List Line) (xs ys : List ℕ) → AllByRecursion (λ x. x < 256) xs → AllByRecursion (λ y. y < 256) ys →
+    (most r : ℕ) (ls : List Line) (xs ys : List ℕ) → All (λ x. x < 256) xs → All (λ y. y < 256) ys →
     ProofFile most r ls xs → ProofFile most r ls ys → xs ≡ ys
