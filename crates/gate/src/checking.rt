@@ -1,6 +1,6 @@
 // Checking a proof file at a gate.
 ghost use Rattle.std.specs.Prelude.{◌≡◌, length};
-ghost use Rattle.trail.specs.Trails.{AllBlank};
+ghost use Rattle.trail.specs.Places.{AllBlank};
 ghost use Rattle.rules.specs.Branches.{blank_fact, blank_link, blank_fork};
 ghost use Rattle.soundness.specs.Walking.{stated};
 ghost use Rattle.tableau.specs.Passing.{Exactly, Grounded};

@@ -1,3 +1,4 @@
 pub mod Rooms
 pub mod Forks
+pub mod Same
 pub mod Steps

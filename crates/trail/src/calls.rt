@@ -1,16 +1,15 @@
 // The calls of a trail.
-ghost use Rattle.std.specs.Prelude.{◌≡◌, ℕ, ◌-◌, [], length, take};
-ghost use Rattle.std.specs.List.{slice_get};
-ghost use Rattle.trail.specs.Trails.{TrailSound, SamePlaces, entries_of, capacity, capacity_of, pushed, push_answer};
-
 use crate::blank::Blank;
 use crate::places::{clear, counting, read, wipe, write};
 use crate::trail::Trail;
 
 impl<'a, T: Blank> Trail<'a, T> {
+    ghost use Rattle.std.specs.Prelude.{◌≡◌, ℕ, ◌-◌, [], length, take};
+    ghost use Rattle.std.specs.List.{slice_get};
+    ghost use Rattle.trail.specs.Trails.{SamePlaces, entries_of, capacity_of, pushed, push_answer};
+
     // An empty trail. It blanks every place of the table, whatever it held.
     pub fn new(places: &'a mut [T]) -> Trail<'a, T>
-        ensures sound { TrailSound T.Blank.blank result }
         ensures empty { entries_of result ≡ [] }
         ensures places { SamePlaces places.entry result.places }
     {
@@ -20,7 +19,6 @@ impl<'a, T: Blank> Trail<'a, T> {
 
     // How many more entries it can take.
     pub fn room(&mut self) -> usize
-        requires { TrailSound T.Blank.blank self.old }
         ensures answer { result ≡ capacity_of self.old - length (entries_of self.old) }
         ensures unchanged { self.new ≡ self.old }
     {
@@ -30,7 +28,6 @@ impl<'a, T: Blank> Trail<'a, T> {
 
     // The entry with the number `n`.
     pub fn get(&mut self, n: usize) -> Option<T>
-        requires { TrailSound T.Blank.blank self.old }
         ensures answer { result ≡ slice_get (entries_of self.old) n }
         ensures unchanged { self.new ≡ self.old }
     {
@@ -40,8 +37,6 @@ impl<'a, T: Blank> Trail<'a, T> {
 
     // Adds an entry at the end, or hands it back where no place is left.
     pub fn push(&mut self, entry: T) -> Result<(), T>
-        requires { TrailSound T.Blank.blank self.old }
-        ensures sound { TrailSound T.Blank.blank self.new }
         ensures answer { result ≡ push_answer (capacity_of self.old) (entries_of self.old) entry }
         ensures after { entries_of self.new ≡ pushed (capacity_of self.old) (entries_of self.old) entry }
         ensures places { SamePlaces self.old.places self.new.places }
@@ -50,15 +45,14 @@ impl<'a, T: Blank> Trail<'a, T> {
         if len >= counting(self.places) {
             return Err(entry);
         }
-        write(self.places, len, entry);
+        // The count goes first: what the type keeps has to hold at each write through the lent slice.
         self.len = len + 1;
+        write(self.places, len, entry);
         Ok(())
     }
 
     // Keeps the first `n` entries; the places of the others are blank again.
     pub fn cut(&mut self, n: usize)
-        requires { TrailSound T.Blank.blank self.old }
-        ensures sound { TrailSound T.Blank.blank self.new }
         ensures after { entries_of self.new ≡ take n (entries_of self.old) }
         ensures places { SamePlaces self.old.places self.new.places }
     {
@@ -66,6 +60,21 @@ impl<'a, T: Blank> Trail<'a, T> {
         if n < len {
             clear(self.places, n, len);
             self.len = n;
+        }
+    }
+}
+
+// An empty trail without places.
+impl<'a, T: Blank> Default for Trail<'a, T> {
+    ghost use Rattle.std.specs.Prelude.{◌≡◌, []};
+    ghost use Rattle.trail.specs.Trails.{entries_of};
+
+    ghost is_default = { λ t. entries_of t ≡ [] };
+
+    fn default() -> Trail<'a, T> {
+        Trail {
+            places: &mut [],
+            len: 0,
         }
     }
 }

@@ -1,7 +1,7 @@
 // Work on the places of a trail. Each function is handed the whole slice for writing.
 ghost use Rattle.std.specs.Prelude.{◌≡◌, ◌<◌, ◌≤◌, length, take, slice_set};
 ghost use Rattle.std.specs.List.{slice_get};
-ghost use Rattle.trail.specs.Trails.{AllBlank, Cleared, capacity};
+ghost use Rattle.trail.specs.Places.{AllBlank, Cleared, capacity};
 
 use crate::blank::Blank;
 
@@ -12,9 +12,8 @@ pub(crate) const LIMIT: usize = 4096;
 pub fn wipe<T: Blank>(places: &mut [T])
     ensures blank { AllBlank T.Blank.blank places.new }
 {
-    for place in places.iter_mut() {
-        *place = T::blank();
-    }
+    let blank = T::blank();
+    places.fill_with(|| blank);
 }
 
 // How many of the places count.
@@ -31,7 +30,7 @@ pub(crate) fn read<T: Copy>(places: &mut [T], len: usize, n: usize) -> Option<T>
     ensures answer { result ≡ slice_get (take len places.old) n }
     ensures same { places.new ≡ places.old }
 {
-    if n < len { Some(places[n]) } else { None }
+    places[..len].get(n).copied()
 }
 
 // Writes an entry at a place.
@@ -43,11 +42,10 @@ pub(crate) fn write<T: Copy>(places: &mut [T], at: usize, entry: T)
 }
 
 // Blanks the places from `from` on, before `to`.
+#[tactic(auto, using(std::proofs::lemmas::List::places, std::proofs::lemmas::Slice::overwrites))]
 pub(crate) fn clear<T: Blank>(places: &mut [T], from: usize, to: usize)
     requires { (from ≤ to) × (to ≤ length places.old) }
     ensures { Cleared T.Blank.blank places.old from to places.new }
 {
-    for k in from..to {
-        places[k] = T::blank();
-    }
+    wipe(&mut places[from..to]);
 }

@@ -1,20 +1,22 @@
 // What a trail holds, and how many.
-ghost use Rattle.std.specs.Prelude.{◌≡◌, length};
-ghost use Rattle.trail.specs.Trails.{TrailSound, entries_of};
+ghost use Rattle.trail.specs.Places.{Sound};
 
 use crate::blank::Blank;
 
-// The first `len` places are its entries, in order of arrival. It holds at most 4,096 of them.
+// The first `len` places are its entries, in order of arrival. No more are in use than the 4,096 that count, and all the others are blank.
 #[derive(Drop)]
-pub struct Trail<'a, T> {
+pub struct Trail<'a, T: Blank> {
     pub(crate) places: &'a mut [T],
     pub(crate) len: usize,
+    ghost sound: { Sound T.blank places.now len },
 }
 
 impl<'a, T: Blank> Trail<'a, T> {
+    ghost use Rattle.std.specs.Prelude.{◌≡◌, length};
+    ghost use Rattle.trail.specs.Trails.{entries_of};
+
     // How many entries it has.
     pub fn len(&self) -> usize
-        requires { TrailSound T.Blank.blank self.now }
         ensures answer { result ≡ length (entries_of self.now) }
     {
         self.len
