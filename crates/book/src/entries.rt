@@ -16,7 +16,7 @@ pub struct Entries<'a, R> {
 
 impl<'a, R: Register> Entries<'a, R> {
     pub fn new(book: &'a R, after: u16) -> Entries<'a, R>
-        ensures left { entries_left R.Register.live result ≡ live_above (R.Register.live book.now) after }
+        ensures left { entries_left R.live result ≡ live_above (R.live book.now) after }
     {
         Entries { book, after }
     }
@@ -25,9 +25,9 @@ impl<'a, R: Register> Entries<'a, R> {
 impl<'a, R: Register> Iterator for Entries<'a, R> {
     type Item = Entry;
 
-    ghost remaining = { item_count (entries_left R.Register.live) };
+    ghost remaining = { item_count (entries_left R.live) };
 
-    ghost next_gives = { YieldsFirst (entries_left R.Register.live) };
+    ghost next_gives = { YieldsFirst (entries_left R.live) };
 
     fn next(&mut self) -> Option<Entry> {
         let entry = self.book.next_after(self.after)?;

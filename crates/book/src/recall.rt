@@ -28,9 +28,9 @@ impl<B> Recall<B> {
 }
 
 impl<B: Register> Register for Recall<B> {
-    ghost live = { λ b. recalled_live (sheet_list b.sheet) (B.Register.live b.below) };
+    ghost live = { λ b. recalled_live (sheet_list b.sheet) (B.live b.below) };
 
-    ghost orderly = { λ b. recalled_orderly (sheet_list b.sheet) (B.Register.live b.below) (B.Register.orderly b.below) };
+    ghost orderly = { λ b. recalled_orderly (sheet_list b.sheet) (B.live b.below) (B.orderly b.below) };
 
     fn lookup(&self, serial: u16) -> Option<Entry> {
         if self.sheet.contains(serial) {
@@ -46,15 +46,15 @@ impl<B: Register> Register for Recall<B> {
 }
 
 impl<B: Book> Book for Recall<B> {
-    ghost barred = { λ b. recalled_barred (sheet_list b.sheet) (B.Book.barred b.below) };
+    ghost barred = { λ b. recalled_barred (sheet_list b.sheet) (B.barred b.below) };
 
-    ghost free = { λ b. B.Book.free b.below };
+    ghost free = { λ b. B.free b.below };
 
-    ghost behind = { λ a b. (b.sheet ≡ a.sheet) × B.Book.behind a.below b.below };
+    ghost behind = { λ a b. (b.sheet ≡ a.sheet) × B.behind a.below b.below };
 
-    ghost still = { λ b. (refl, B.Book.still b.below) };
+    ghost still = { λ b. (refl, B.still b.below) };
 
-    ghost onward = { λ a b c p q. (q.0 ∙ p.0, B.Book.onward a.below b.below c.below p.1 q.1) };
+    ghost onward = { λ a b c p q. (q.0 ∙ p.0, B.onward a.below b.below c.below p.1 q.1) };
 
     // A recalled serial is barred here, whatever the book below would say.
     fn file(&mut self, entry: Entry) -> Result<(), Denial> {

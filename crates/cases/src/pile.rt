@@ -23,7 +23,7 @@ pub(crate) struct Answers {
 
 // Puts the four questions to a book.
 fn ask<B: Book>(book: &mut B, entry: Entry, other: Entry) -> Answers
-    ensures answer { result ≡ asked (means (B.Register.live book.old) (B.Book.barred book.old) (B.Book.free book.old)) entry other }
+    ensures answer { result ≡ asked (means (B.live book.old) (B.barred book.old) (B.free book.old)) entry other }
 {
     let found = book.lookup(entry.serial);
     let filed = book.file(entry);

@@ -19,7 +19,7 @@ impl<'a, R: Register> Given<'a, R> {
     // What an operand of a line on the branch cites, used so.
     #[tactic(auto, using(crate::proofs::Same::same_branch))]
     fn operand(&self, branch: &mut OpenBranch, used: Use, n: u16) -> Option<Operand>
-        ensures answer { result ≡ operand (given_by R.Register.live self.now).rows (branch_of branch.old) used n }
+        ensures answer { result ≡ operand (given_by R.live self.now).rows (branch_of branch.old) used n }
         ensures unchanged { branch.new ≡ branch.old }
     {
         match used {
@@ -40,7 +40,7 @@ impl<'a, R: Register> Given<'a, R> {
 
     // The row of a live entry, if its standing is the one that the rule cites and its row is named.
     fn cite_entry(&self, rule: Rule, entry: Option<Entry>) -> Option<Operand>
-        ensures { result ≡ cite_entry (given_by R.Register.live self.now).rows rule entry }
+        ensures { result ≡ cite_entry (given_by R.live self.now).rows rule entry }
     {
         let entry = entry?;
         match (rule, entry.standing) {
@@ -54,7 +54,7 @@ impl<'a, R: Register> Given<'a, R> {
 
     // A serial becomes the row of its entry; every other operand stays. The book is asked here and nowhere else.
     fn cited(&self, rule: Rule, operand: Operand) -> Option<Operand>
-        ensures { result ≡ cited (given_by R.Register.live self.now) rule operand }
+        ensures { result ≡ cited (given_by R.live self.now) rule operand }
     {
         match operand {
             Operand::Serial(serial) => self.cite_entry(rule, self.book.lookup(serial)),
@@ -70,7 +70,7 @@ impl<'a, R: Register> Given<'a, R> {
         line: Line,
         number: u64,
     ) -> Result<Move, Denial>
-        ensures answer { result ≡ line_move (given_by R.Register.live self.now) (branch_of branch.old) shape line number }
+        ensures answer { result ≡ line_move (given_by R.live self.now) (branch_of branch.old) shape line number }
         ensures unchanged { branch.new ≡ branch.old }
     {
         let Some(a) = self.operand(branch, shape.a, line.a) else {

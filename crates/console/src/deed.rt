@@ -42,7 +42,7 @@ fn struck(res: Result<(), Denial>) -> Answer
 }
 
 fn list<B: Book>(heap: Global, gate: &Gate<B>) -> Answer
-    ensures answer { Lists (all_live (B.Register.live gate.now.book)) (reply result) }
+    ensures answer { Lists (all_live (B.live gate.now.book)) (reply result) }
 {
     match live_entries(heap, gate) {
         Ok(entries) => Answer::Live(entries),
@@ -52,8 +52,8 @@ fn list<B: Book>(heap: Global, gate: &Gate<B>) -> Answer
 
 // Does the deed at the gate and answers what came of it.
 pub(crate) fn act<B: Book>(heap: Global, gate: &mut Gate<B>, deed: Deed) -> Answer
-    ensures answer { Replies deed (state_of B.Register.live B.Book.barred B.Book.free gate.old) (reply result) }
-    ensures after { state_of B.Register.live B.Book.barred B.Book.free gate.new ≡ deed_left deed (state_of B.Register.live B.Book.barred B.Book.free gate.old) }
+    ensures answer { Replies deed (state_of B.live B.barred B.free gate.old) (reply result) }
+    ensures after { state_of B.live B.barred B.free gate.new ≡ deed_left deed (state_of B.live B.barred B.free gate.old) }
 {
     match deed {
         Deed::Principal(n) => named(gate.principal(n.form, n.x, n.y)),

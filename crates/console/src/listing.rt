@@ -10,7 +10,7 @@ use std::alloc::{AllocError, Global};
 
 // The live entries in rising serial order.
 pub(crate) fn live_entries<B: Book>(heap: Global, gate: &Gate<B>) -> Result<Vec<Entry>, AllocError>
-    ensures entries { IfOk result (λ v. v.items ≡ all_live (B.Register.live gate.now.book)) }
+    ensures entries { IfOk result (λ v. v.items ≡ all_live (B.live gate.now.book)) }
 {
     gate.entries().collect(heap)
 }

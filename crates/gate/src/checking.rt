@@ -23,9 +23,9 @@ impl<B: Book> Gate<B> {
         links: &mut [Link],
         forks: &mut [Fork],
     ) -> Result<u16, Denial>
-        ensures answer { result ≡ checking (state_of B.Register.live B.Book.barred B.Book.free self.now) (length facts.old) (length links.old) (length forks.old) file.now }
-        ensures exactly { Exactly (stated (length facts.old) (length links.old) (length forks.old)) (given_at (state_of B.Register.live B.Book.barred B.Book.free self.now)) file.now result }
-        ensures follows { Grounded (given_at (state_of B.Register.live B.Book.barred B.Book.free self.now)) result }
+        ensures answer { result ≡ checking (state_of B.live B.barred B.free self.now) (length facts.old) (length links.old) (length forks.old) file.now }
+        ensures exactly { Exactly (stated (length facts.old) (length links.old) (length forks.old)) (given_at (state_of B.live B.barred B.free self.now)) file.now result }
+        ensures follows { Grounded (given_at (state_of B.live B.barred B.free self.now)) result }
         ensures blank_facts { AllBlank blank_fact facts.new }
         ensures blank_links { AllBlank blank_link links.new }
         ensures blank_forks { AllBlank blank_fork forks.new }

@@ -19,7 +19,7 @@ impl Tableau<'_, '_, '_> {
         line: Line,
         number: u64,
     ) -> Result<(), Denial>
-        ensures answer { further result (λ _. Ok (progress self.new)) ≡ stepped (limits self.old) (given_by R.Register.live given.now) (progress self.old) line number }
+        ensures answer { further result (λ _. Ok (progress self.new)) ≡ stepped (limits self.old) (given_by R.live given.now) (progress self.old) line number }
         ensures same { SameTables self.old self.new }
         ensures err { OnErr result (self.new ≡ self.old) }
     {

@@ -49,7 +49,7 @@ fn walk_file<R: Register>(
     tableau: &mut Tableau,
 ) -> Result<u16, Denial>
     requires empty { progress tableau.old ≡ going (branch [] [] 1) [] }
-    ensures answer { result ≡ walked (limits tableau.old) (given_by R.Register.live given.now) file.now }
+    ensures answer { result ≡ walked (limits tableau.old) (given_by R.live given.now) file.now }
     ensures same { SameTables tableau.old tableau.new }
 {
     let (request, lines) = read_proof(given.names, file)?;
@@ -73,7 +73,7 @@ fn walk_with<R: Register>(
     requires facts { entries_of facts.old ≡ [] }
     requires links { entries_of links.old ≡ [] }
     requires forks { entries_of forks.old ≡ [] }
-    ensures answer { result ≡ walked (stated (length facts.old.places.now) (length links.old.places.now) (length forks.old.places.now)) (given_by R.Register.live given.now) file.now }
+    ensures answer { result ≡ walked (stated (length facts.old.places.now) (length links.old.places.now) (length forks.old.places.now)) (given_by R.live given.now) file.now }
     ensures facts { SamePlaces facts.old.places facts.new.places }
     ensures links { SamePlaces links.old.places links.new.places }
     ensures forks { SamePlaces forks.old.places forks.new.places }
@@ -95,9 +95,9 @@ pub fn walk<R: Register>(
     links: &mut [Link],
     forks: &mut [Fork],
 ) -> Result<u16, Denial>
-    ensures answer { result ≡ walked (stated (length facts.old) (length links.old) (length forks.old)) (given (rows_of names.now) (R.Register.live book.now)) file.now }
-    ensures exactly { Exactly (stated (length facts.old) (length links.old) (length forks.old)) (given (rows_of names.now) (R.Register.live book.now)) file.now result }
-    ensures follows { Grounded (given (rows_of names.now) (R.Register.live book.now)) result }
+    ensures answer { result ≡ walked (stated (length facts.old) (length links.old) (length forks.old)) (given (rows_of names.now) (R.live book.now)) file.now }
+    ensures exactly { Exactly (stated (length facts.old) (length links.old) (length forks.old)) (given (rows_of names.now) (R.live book.now)) file.now result }
+    ensures follows { Grounded (given (rows_of names.now) (R.live book.now)) result }
     ensures blank_facts { AllBlank blank_fact facts.new }
     ensures blank_links { AllBlank blank_link links.new }
     ensures blank_forks { AllBlank blank_fork forks.new }

@@ -30,7 +30,7 @@ pub(crate) fn walk_lines<R: Register>(
     lines: &[[u8; 7]],
     tableau: &mut Tableau,
 ) -> Result<(), Denial>
-    ensures answer { result ≡ lines_walked (limits tableau.old) (given_by R.Register.live given.now) 0 (progress tableau.old) (map line_of lines.now) }
+    ensures answer { result ≡ lines_walked (limits tableau.old) (given_by R.live given.now) 0 (progress tableau.old) (map line_of lines.now) }
     ensures same { SameTables tableau.old tableau.new }
 {
     for (i, line) in lines.iter().enumerate() {

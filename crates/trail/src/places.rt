@@ -10,7 +10,7 @@ pub(crate) const LIMIT: usize = 4096;
 
 // Blanks every place.
 pub fn wipe<T: Blank>(places: &mut [T])
-    ensures blank { AllBlank T.Blank.blank places.new }
+    ensures blank { AllBlank T.blank places.new }
 {
     let blank = T::blank();
     places.fill_with(|| blank);
@@ -45,7 +45,7 @@ pub(crate) fn write<T: Copy>(places: &mut [T], at: usize, entry: T)
 #[tactic(auto, using(std::proofs::lemmas::List::places, std::proofs::lemmas::Slice::overwrites))]
 pub(crate) fn clear<T: Blank>(places: &mut [T], from: usize, to: usize)
     requires { (from ≤ to) × (to ≤ length places.old) }
-    ensures { Cleared T.Blank.blank places.old from to places.new }
+    ensures { Cleared T.blank places.old from to places.new }
 {
     wipe(&mut places[from..to]);
 }
