@@ -1,6 +1,8 @@
 -- That the laws in words say exactly what filing and striking compute. Assumes nothing.
 use Rattle.std.proofs.Common.{◌≡◌, ℕ, suc, ◌+◌, ◌-◌, Bool, true, false, is_some, Some, None, Ok, Err, Option, Result, sym, refl, ap, ◌∙◌, subst, ⊎_elim, arith}
 use mathlib.Core.Path.{fun_ext}
+use Rattle.std.proofs.lemmas.Bool.Decides.{nat_tests}
+use Rattle.std.proofs.lemmas.Grind.{common_steps}
 use Rattle.std.proofs.lemmas.Bool.{eq-eqb, ne_eqb, cases_eq, cond-true, cond-false}
 use Rattle.denials.specs.declared.denial.Denial.{Denial}
 use Rattle.denials.specs.Denials.{denied}
@@ -97,10 +99,7 @@ module _ (m : Meaning) (e : Entry) where
   entered_is : (n : Meaning) → Entered m e n → n ≡ entered m e
   entered_is n h =
       same_meaning n (entered m e)
-      (λ s. ⊎_elim
-      (λ (same : s ≡ e.serial). ap n.live same ∙ h.entry ∙ sym (with_here m.live e s same))
-      (λ other. h.others s other ∙ sym (with_other m.live e s other))
-      (cases_eq s e.serial))
+      (λ s. let moved = λ (same : s ≡ e.serial). ap n.live same in grind (arith, nat_tests, common_steps, moved, h.entry, h.others s))
       h.bars
       (omega (arith, h.places))
 
@@ -143,10 +142,7 @@ module _ (m : Meaning) (s : ℕ) where
   removed_is : (n : Meaning) → Removed m s n → n ≡ removed m s
   removed_is n h =
       same_meaning n (removed m s)
-      (λ t. ⊎_elim
-      (λ (same : t ≡ s). ap n.live same ∙ h.gone ∙ sym (without_here m.live s t same))
-      (λ other. h.others t other ∙ sym (without_other m.live s t other))
-      (cases_eq t s))
+      (λ t. let moved = λ (same : t ≡ s). ap n.live same in grind (arith, nat_tests, common_steps, moved, h.gone, h.others t))
       h.bars
       (omega (arith, h.places))
 

@@ -1,6 +1,7 @@
 -- What a recall layer makes of a call on the book below. Assumes nothing.
-use Rattle.std.proofs.Common.{◌≡◌, ℕ, zero, suc, ◌+◌, ◌-◌, true, false, not, cond, eqb, List, is_some, Some, None, Err, Option, Result, sym, refl, ap, ◌∙◌, ⊎_elim, arith}
-use Rattle.std.proofs.lemmas.Bool.{cases_eq, cases_Bool, cond-true, cond-false, both_ways}
+use Rattle.std.proofs.Common.{◌≡◌, ℕ, zero, suc, ◌+◌, ◌-◌, true, false, not, cond, List, is_some, Some, None, Err, Option, Result, sym, refl, ap, ◌∙◌, ⊎_elim, arith}
+use Rattle.std.proofs.lemmas.Bool.Decides.{nat_tests}
+use Rattle.std.proofs.lemmas.Bool.{cases_Bool, cond-true, both_ways}
 use Rattle.denials.specs.declared.denial.Denial.{Denial}
 use Rattle.denials.specs.Denials.{denied}
 use Rattle.book.specs.declared.entry.Entry.{Entry}
@@ -10,9 +11,9 @@ use Rattle.book.specs.Live.{Orderly, or_else, first_from, next_after}
 use Rattle.book.specs.Listings.{before, gathered, live_above}
 use Rattle.book.specs.Meaning.{Meaning, means, with_entry, without, answered, settled, filing_number, file_answer, file_after, striking_number, strike_answer, strike_after}
 use Rattle.book.specs.Serials.{on}
-use Rattle.book.specs.Recall.{recalled_live, recalled_barred, recall_means, recalled_here, recalled_other, recalled_none}
+use Rattle.book.specs.Recall.{recalled_live, recalled_barred, recall_means, recalled_here, recalled_other}
 use Rattle.book.proofs.Outcomes.{Files, files_not, number_barred, Strikes, strikes_not}
-use Rattle.book.proofs.Exact.{same_meaning, with_here, with_other, without_here, without_other}
+use Rattle.book.proofs.Exact.{same_meaning}
 
 settled_below :
     (xs : List ℕ) (c : ℕ) (m n : Meaning) → recall_means xs (settled c m n) ≡ settled c (recall_means xs m) (recall_means xs n)
@@ -23,34 +24,16 @@ module _ (xs : List ℕ) (m : Meaning) where
   -- a serial that is not on the sheet has the number that it has below
   same_number :
       (s : ℕ) → on xs s ≡ false → filing_number (recall_means xs m) s ≡ filing_number m s
-  same_number s unlisted =
-      ap (λ b. cond (eqb s 0) 6 (cond b 7 (cond (is_some (recalled_live xs m.live s)) 8 (cond (eqb m.free 0) 9 0))))
-      (cond-false _ _ _ unlisted) ∙
-      ap (λ o. cond (eqb s 0) 6 (cond (m.barred s) 7 (cond (is_some o) 8 (cond (eqb m.free 0) 9 0))))
-      (recalled_other xs m.live s unlisted)
+  same_number s unlisted = grind (arith, common_steps)
 
   with_below :
       (e : Entry) → on xs e.serial ≡ false → (t : ℕ) →
       recalled_live xs (with_entry m.live e) t ≡ with_entry (recalled_live xs m.live) e t
-  with_below e unlisted t =
-      ⊎_elim
-      (λ (same : t ≡ e.serial).
-      recalled_other xs (with_entry m.live e) t (ap (on xs) same ∙ unlisted) ∙ with_here m.live e t same ∙
-      sym (with_here (recalled_live xs m.live) e t same))
-      (λ (other : t ≡ e.serial → ⊥).
-      ap (cond (on xs t) None) (with_other m.live e t other) ∙ sym (with_other (recalled_live xs m.live) e t other))
-      (cases_eq t e.serial)
+  with_below e unlisted t = let moved = λ (same : t ≡ e.serial). ap (on xs) same in grind (arith, nat_tests, common_steps, moved)
 
   without_below :
       (s : ℕ) (t : ℕ) → recalled_live xs (without m.live s) t ≡ without (recalled_live xs m.live) s t
-  without_below s t =
-      ⊎_elim
-      (λ (same : t ≡ s).
-      recalled_none xs (without m.live s) t (without_here m.live s t same) ∙
-      sym (without_here (recalled_live xs m.live) s t same))
-      (λ (other : t ≡ s → ⊥).
-      ap (cond (on xs t) None) (without_other m.live s t other) ∙ sym (without_other (recalled_live xs m.live) s t other))
-      (cases_eq t s)
+  without_below s t = grind (arith, nat_tests, common_steps)
 
   pub files_below :
       (e : Entry) (r : Result (Unit {0}) Denial) (n : Meaning) → on xs e.serial ≡ false →

@@ -1,6 +1,8 @@
 -- What filing and striking answer and leave, case by case. Assumes nothing.
-use Rattle.std.proofs.Common.{◌≡◌, ℕ, suc, ◌+◌, ◌-◌, true, false, is_some, Ok, Err, Result, sym, ap, ◌∙◌}
-use Rattle.std.proofs.lemmas.Bool.{eq-eqb, ne_eqb, cond-true, cond-false}
+use Rattle.std.proofs.Common.{◌≡◌, ℕ, suc, ◌+◌, ◌-◌, true, false, is_some, Ok, Err, Result, sym, ap, ◌∙◌, arith}
+use Rattle.std.proofs.lemmas.Bool.Decides.{nat_tests}
+use Rattle.std.proofs.lemmas.Grind.{common_steps}
+use Rattle.std.proofs.lemmas.Bool.{cond-true, cond-false}
 use Rattle.denials.specs.declared.denial.Denial.{Denial}
 use Rattle.denials.specs.Denials.{denied}
 use Rattle.book.specs.declared.entry.Entry.{Entry}
@@ -8,23 +10,21 @@ use Rattle.book.specs.Meaning.{Meaning, means, with_entry, without, answered, se
 
 module _ (m : Meaning) (s : ℕ) where
   pub number_zero : s ≡ 0 → filing_number m s ≡ 6
-  number_zero z = cond-true _ _ _ (eq-eqb s 0 z)
+  number_zero z = grind (arith, nat_tests, common_steps)
 
   pub number_barred : (s ≡ 0 → ⊥) → m.barred s ≡ true → filing_number m s ≡ 7
-  number_barred nz b = cond-false _ _ _ (ne_eqb s 0 nz) ∙ cond-true _ _ _ b
+  number_barred nz b = grind (arith, nat_tests, common_steps)
 
   pub number_live : (s ≡ 0 → ⊥) → m.barred s ≡ false → is_some (m.live s) ≡ true → filing_number m s ≡ 8
-  number_live nz b l = cond-false _ _ _ (ne_eqb s 0 nz) ∙ cond-false _ _ _ b ∙ cond-true _ _ _ l
+  number_live nz b l = grind (arith, nat_tests, common_steps)
 
   pub number_full :
       (s ≡ 0 → ⊥) → m.barred s ≡ false → is_some (m.live s) ≡ false → m.free ≡ 0 → filing_number m s ≡ 9
-  number_full nz b l f =
-      cond-false _ _ _ (ne_eqb s 0 nz) ∙ cond-false _ _ _ b ∙ cond-false _ _ _ l ∙ cond-true _ _ _ (eq-eqb m.free 0 f)
+  number_full nz b l f = grind (arith, nat_tests, common_steps)
 
   pub number_free :
       (s ≡ 0 → ⊥) → m.barred s ≡ false → is_some (m.live s) ≡ false → (m.free ≡ 0 → ⊥) → filing_number m s ≡ 0
-  number_free nz b l f =
-      cond-false _ _ _ (ne_eqb s 0 nz) ∙ cond-false _ _ _ b ∙ cond-false _ _ _ l ∙ cond-false _ _ _ (ne_eqb m.free 0 f)
+  number_free nz b l f = grind (arith, nat_tests, common_steps)
 
 -- an answer and what is left, as filing and striking give them
 pub record Files (m : Meaning) (e : Entry) (r : Result (Unit {0}) Denial) (n : Meaning) : Type 0 where

@@ -3,7 +3,7 @@ use Rattle.std.proofs.Common.{◌≡◌, ℕ, zero, suc, ◌+◌, ◌<◌, ◌�
 use Rattle.std.specs.Option.{option_copied}
 use Rattle.std.specs.Slice.{IsItemAt}
 use Rattle.std.proofs.lemmas.Grind.{common_steps}
-use Rattle.std.proofs.lemmas.Bool.{eq-eqb, ne_eqb, cases_eq, cases_lt, cases_order, cond-true, cond-false}
+use Rattle.std.proofs.lemmas.Bool.{eq-eqb, ne_eqb, cases_eq, cases_lt, cond-true, cond-false}
 use Rattle.book.specs.declared.entry.Entry.{Entry}
 use Rattle.book.specs.Live.{blank, next_after}
 use Rattle.records.specs.Records.{serial_at, held, Rising, InUse, Placed}
@@ -33,13 +33,7 @@ module _ (xs : List Entry) where
       (cases_eq (serial_at xs n) s)
 
   pub one_bearer : (n i j : ℕ) → Rising xs n → i < n → j < n → serial_at xs i ≡ serial_at xs j → i ≡ j
-  one_bearer n i j rising li lj same =
-      ⊎_elim
-      (λ (e : i ≡ j). e)
-      (⊎_elim
-      (λ (lt : i < j). absurd (omega (arith, rising i j lt lj)))
-      (λ (lt : j < i). absurd (omega (arith, rising j i lt li))))
-      (cases_order i j)
+  one_bearer n i j rising li lj same = grind (arith, rising i j, rising j i)
 
   pub held_some :
       (n s k : ℕ) → Rising xs n → k < n → serial_at xs k ≡ s → held xs n s ≡ Some (get_or xs k blank)
@@ -59,13 +53,7 @@ module _ (xs : List Entry) (in_use : InUse xs) where
         found = held_some xs (length xs) (serial_at xs at) at in_use.rising lt refl;
         between = λ t lo hi.
             held_none xs (length xs) t
-            (λ k lk e.
-            ⊎_elim
-            (λ (same : k ≡ at). omega (arith, ap (serial_at xs) same))
-            (⊎_elim
-            (λ (below : k < at). omega (arith, placed.before k below))
-            (λ (above : at < k). omega (arith, in_use.rising at k above lk)))
-            (cases_order k at));
+            (λ k lk e. let same = λ (q : k ≡ at). ap (serial_at xs) q in grind (arith, same, placed.before k, in_use.rising at k));
       })
 
   next_none : (s at : ℕ) → Placed xs (length xs) (s + 1) at → length xs ≤ at → None ≡ next_after (held xs (length xs)) s

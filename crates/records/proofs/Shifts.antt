@@ -8,7 +8,7 @@ use Rattle.book.specs.Meaning.{with_entry, without}
 use Rattle.records.specs.Records.{serial_at, held, Rising, Kept, Placed, ShiftedIn, ShiftedOut}
 use Rattle.book.proofs.Exact.{with_here, with_other, without_here, without_other}
 use Rattle.records.specs.Orderly.{held_none}
-use Rattle.records.proofs.Held.{borne, unborne, bearer, held_some}
+use Rattle.records.proofs.Held.{borne, unborne, bearer, one_bearer, held_some}
 
 abbrev serial_of : Entry → ℕ
 serial_of e = e.serial
@@ -44,22 +44,7 @@ module _
 
     pub in_rising : Rising ys (suc n)
     in_rising i j lt hi =
-        ⊎_elim
-        (λ (jat : j ≡ at). omega (arith, here j jat, below i (omega arith), placed.before i (omega arith)))
-        (⊎_elim
-        (λ (jlo : j < at).
-        omega (arith, below i (omega arith), below j jlo, placed.within, kept.rising i j lt (omega (arith, placed.within))))
-        (λ (jhi : at < j).
-        ⊎_elim
-        (λ (iat : i ≡ at).
-        omega (arith, here i iat, above j jhi hi, placed.onward (j - 1) (omega arith) (omega arith), new (j - 1) (omega arith)))
-        (⊎_elim
-        (λ (ilo : i < at).
-        omega (arith, below i ilo, above j jhi hi, kept.rising i (j - 1) (omega arith) (omega arith)))
-        (λ (ihi : at < i).
-        omega (arith, above i ihi (omega arith), above j jhi hi, kept.rising (i - 1) (j - 1) (omega arith) (omega arith))))
-        (cases_order i at)))
-        (cases_order j at)
+        grind (arith, below i, below j, here i, here j, above i, above j, placed.within, placed.before i, placed.onward (j - 1), new (j - 1), kept.rising i j, kept.rising i (j - 1), kept.rising (i - 1) (j - 1))
 
     pub in_kept : Kept ys size (suc n)
     in_kept = record {
@@ -115,15 +100,7 @@ module _
 
     pub out_rising : Rising ys m
     out_rising i j lt hi =
-        ⊎_elim
-        (λ (jlo : j < at). omega (arith, out_below i (omega arith), out_below j jlo, kept.rising i j lt (omega arith)))
-        (λ (jhi : at ≤ j).
-        ⊎_elim
-        (λ (ilo : i < at). omega (arith, out_below i ilo, out_above j jhi hi, kept.rising i (suc j) (omega arith) (omega arith)))
-        (λ (ihi : at ≤ i).
-        omega (arith, out_above i ihi (omega arith), out_above j jhi hi, kept.rising (suc i) (suc j) (omega arith) (omega arith)))
-        (cases_lt i at))
-        (cases_lt j at)
+        grind (arith, out_below i, out_below j, out_above i, out_above j, kept.rising i j, kept.rising i (suc j), kept.rising (suc i) (suc j))
 
     pub out_kept : Kept ys size m
     out_kept = record {
@@ -140,13 +117,7 @@ module _
     }
 
     gone : (k : ℕ) → k < m → serial_at ys k ≡ serial_at xs at → ⊥
-    gone = out_each (λ s. s ≡ serial_at xs at → ⊥) (λ k lt ne same.
-        ⊎_elim
-        (λ (eq : k ≡ at). ne eq)
-        (⊎_elim
-        (λ (lo : k < at). omega (arith, kept.rising k at lo place))
-        (λ (hi : at < k). omega (arith, kept.rising at k hi lt)))
-        (cases_order k at))
+    gone = out_each (λ s. s ≡ serial_at xs at → ⊥) (λ k lt ne same. ne (one_bearer xs (suc m) k at kept.rising lt place same))
 
     out_other : (s : ℕ) → (s ≡ serial_at xs at → ⊥) → held ys m s ≡ held xs (suc m) s
     out_other s other =
