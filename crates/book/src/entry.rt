@@ -42,7 +42,7 @@ pub struct Entry {
     pub row: u16,
 }
 
-// The record of an unused place.
+// The record of an unused place. Records are entries and no Options: that is how they are lent to a ledger.
 pub const BLANK: Entry = Entry {
     serial: 0,
     standing: Standing::Rule,

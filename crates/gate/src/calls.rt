@@ -50,7 +50,7 @@ impl<B: Book> Gate<B> {
         Entries::new(&self.book, 0)
     }
 
-    // Names a principal by its form and operands, and answers its row number.
+    // Names a principal by its form and operands, and answers its row number. A form stays a number, as a standing does: any may be given, and the gate denies what is none.
     pub fn principal(&mut self, form: u8, x: u16, y: u16) -> Result<u16, Denial>
         ensures answer { result ≡ principal_call (state_of B.live B.barred B.free self.old) form x y }
         ensures after { state_of B.live B.barred B.free self.new ≡ principal_left (state_of B.live B.barred B.free self.old) form x y }

@@ -12,6 +12,7 @@ use denials::denial::Denial;
 // A ledger uses no more than this many of the records that it is lent.
 pub const LEDGER_SIZE: usize = 1024;
 
+// A slice with a count, and no Vec: the records are lent, and those that are not in use are blank.
 #[derive(Drop)]
 pub struct Ledger<'a> {
     count: usize,

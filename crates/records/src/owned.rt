@@ -12,6 +12,7 @@ use book::filing::Book;
 use book::register::Register;
 use denials::denial::Denial;
 
+// An array with a count, and no Vec: a gate has no heap, and what it copies is Copy.
 // A type beside the lent ledger, and not one over a trait of storage: that trait and its two impls, with reading, both shifts and what stays, are longer than the calls here.
 #[derive(Clone, Copy)]
 pub struct OwnedLedger {

@@ -29,6 +29,7 @@ pub(crate) fn next_up(in_use: &[Entry], serial: u16) -> Option<Entry>
 }
 
 // Files an entry in the first `size` records, of which `count` are in use.
+// The three go side by side: whoever holds the records holds the numbers too, and a struct of them would borrow each from there.
 pub(crate) fn put_in(
     records: &mut [Entry],
     count: &mut usize,

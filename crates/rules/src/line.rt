@@ -1,6 +1,6 @@
 // A line of a proof, and what its operands are used for.
 
-// A code and three operands.
+// A code and three operands. The code stays a byte: a file may hold any, and the walk denies those of no rule.
 #[derive(Clone, Copy)]
 pub struct Line {
     pub code: u8,

@@ -86,7 +86,7 @@ fn walk_with<R: Register>(
     answer
 }
 
-// Checks a proof file against the book, with three lent tables of which the first 4,096 places count. Answers the row of the request if the file keeps the rules, or the first denial. The tables are blank afterwards, every place of them, whatever they held.
+// Checks a proof file against the book, with three lent tables of which the first 4,096 places count. Answers the row of the request if the file keeps the rules, or the first denial. The tables are blank afterwards, every place of them, whatever they held. Names, book and tables come one by one, as the gate and its callers hold them.
 pub fn walk<R: Register>(
     names: &Names,
     book: &R,

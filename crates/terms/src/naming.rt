@@ -52,7 +52,7 @@ impl Names {
         a == b
     }
 
-    // Names a principal by its form and operands, and answers its number.
+    // Names a principal by its form and operands, and answers its number. A form stays a number: any may be given, and one that is none is denied.
     pub fn principal(&mut self, form: u8, x: u16, y: u16) -> Result<u16, Denial>
         ensures answer { result ≡ principal_name (rows_of self.old) form x y }
         ensures after { rows_of self.new ≡ principal_named (rows_of self.old) form x y }

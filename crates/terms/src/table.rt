@@ -14,6 +14,7 @@ const TABLE_FULL: Denial = Denial {
 };
 
 // The first `count` rows are named: no row stands twice, and the parts of a row that are of its own kind stand before it.
+// An array with a count, and no Vec: a gate has no heap, and its names are Copy.
 #[derive(Copy)]
 pub struct Table<R: Row, const LIMIT: usize> {
     rows: [R; LIMIT],
