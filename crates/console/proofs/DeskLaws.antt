@@ -1,16 +1,18 @@
 -- The console's gates as a list: places, and what each looks like on the desk.
-use Rattle.std.proofs.Common.{◌≡◌, ℕ, zero, suc, ◌+◌, ◌<◌, ◌≤◌, Bool, true, false, cond, eqb, leb, List, [], ◌∷◌, map, length, get_or, is_some, Some, Result, sym, refl, ap, ◌∙◌, subst, arith, le-leb}
+use Rattle.std.proofs.Common.{◌≡◌, ℕ, zero, suc, ◌+◌, ◌<◌, ◌≤◌, Bool, true, false, cond, eqb, leb, List, [], ◌∷◌, map, set, length, get_or, Option, is_some, Some, Ok, Err, Result, sym, refl, ap, ◌∙◌, subst, arith, le-leb}
 use Rattle.std.specs.List.{position, prefix_len, slice_get}
 use Rattle.std.specs.Prelude.{not}
-use Rattle.std.proofs.lemmas.List.{length-map}
+use Rattle.std.proofs.lemmas.List.{length-map, map-set}
 use Rattle.gate.specs.declared.gate.Gate.{Gate}
 use Rattle.std.proofs.lemmas.Option.{slice_get-get_or}
 use borrow.Author.Tests.{lt-leb}
 use Rattle.denials.specs.declared.denial.Denial.{Denial}
 use Rattle.gate.specs.State.{State}
-use Rattle.console.specs.declared.answer.Fault.TheVariants.{OpenAlready, NinthGate}
-use Rattle.console.specs.Replies.{Reply, unreadable}
-use Rattle.console.specs.Desks.{Desk, place_at, place_of, Only, Makes, Opens}
+use Rattle.console.specs.declared.refusal.Fault.TheVariants.{OpenAlready, NinthGate}
+use Rattle.console.specs.Replies.{Reply, unreadable, refused}
+use Rattle.console.specs.Deeds.{Replies, deed_left}
+use Rattle.job.specs.declared.command.Deed.{Deed}
+use Rattle.console.specs.Desks.{Desk, desk, place_at, place_of, AtState, AtGate, Admits, Only, Makes, Opens}
 use Rattle.console.specs.Piles.{Pile, pile_state}
 
 prefix_len_map : {X Y : Type 0} (f : X → Y) (is : Y → Bool) (xs : List X) → prefix_len is (map f xs) ≡ prefix_len (λ x. is (f x)) xs
@@ -36,20 +38,40 @@ nth_read_at xs i x within read = slice_get-get_or xs i x within ∙ ap Some (sym
 pub place_on_desk : (n : ℕ) (gs : List (Gate Pile)) → place_at n (map pile_state gs) ≡ place_of n gs
 place_on_desk n gs = position_map pile_state (λ g. eqb g.number n) gs
 
+-- a deed at the current gate leaves every other gate as it was
+pub at_state : (gs : List (Gate Pile)) (n : ℕ) (gate after : Gate Pile) (deed : Deed) (r : Reply) → n < length gs → gate ≡ get_or gs n gate → Replies deed (pile_state gate) r → pile_state after ≡ deed_left deed (pile_state gate) → AtGate (desk (map pile_state gs) n) deed r (desk (map pile_state (set gs n after)) n)
+at_state gs n gate after deed r within read replies left =
+    let found = nth_map_some pile_state gs n gate (nth_read_at gs n gate within read) in
+    subst (λ (o : Option State). AtState (desk (map pile_state gs) n) deed o r (desk (map pile_state (set gs n after)) n)) (sym found)
+      (replies, ap (λ ss. desk ss n) (map-set pile_state gs n after ∙ ap (set (map pile_state gs) n) left))
+
 -- the ways through an opening
-module _ (d : Desk) (n : ℕ) (made : Result State Denial) (r : Reply) (e : Desk) where
-  pub opens_already : is_some (place_at n d.gates) ≡ true → Only d (unreadable OpenAlready) r e → Opens d n made r e
-  opens_already taken h =
-      subst (λ b. cond b (Only d (unreadable OpenAlready) r e) (cond (leb 8 (length d.gates)) (Only d (unreadable NinthGate) r e) (Makes d made r e))) (sym taken) h
+module _ (gs : List (Gate Pile)) (k n : ℕ) (made : Result State Denial) (r : Reply) (e : Desk) where
+  abbrev before : Desk
+  before = desk (map pile_state gs) k
 
-  past_already : is_some (place_at n d.gates) ≡ false → cond (leb 8 (length d.gates)) (Only d (unreadable NinthGate) r e) (Makes d made r e) → Opens d n made r e
+  taken : is_some (place_of n gs) ≡ is_some (place_at n (map pile_state gs))
+  taken = ap is_some (sym (place_on_desk n gs))
+
+  pub opens_already : is_some (place_of n gs) ≡ true → Only before (unreadable OpenAlready) r e → Opens before n made r e
+  opens_already used h =
+      subst (λ b. cond b (Only before (unreadable OpenAlready) r e) (cond (leb 8 (length before.gates)) (Only before (unreadable NinthGate) r e) (Makes before made r e))) (sym used ∙ taken) h
+
+  past_already : is_some (place_of n gs) ≡ false → cond (leb 8 (length gs)) (Only before (unreadable NinthGate) r e) (Makes before made r e) → Opens before n made r e
   past_already unused h =
-      subst (λ b. cond b (Only d (unreadable OpenAlready) r e) (cond (leb 8 (length d.gates)) (Only d (unreadable NinthGate) r e) (Makes d made r e))) (sym unused) h
+      subst (λ b. cond b (Only before (unreadable OpenAlready) r e) (cond (leb 8 (length before.gates)) (Only before (unreadable NinthGate) r e) (Makes before made r e))) (sym unused ∙ taken)
+        (subst (λ m. cond (leb 8 m) (Only before (unreadable NinthGate) r e) (Makes before made r e)) (sym (length-map gs pile_state)) h)
 
-  pub opens_ninth : is_some (place_at n d.gates) ≡ false → 8 ≤ length d.gates → Only d (unreadable NinthGate) r e → Opens d n made r e
+  pub opens_ninth : is_some (place_of n gs) ≡ false → 8 ≤ length gs → Only before (unreadable NinthGate) r e → Opens before n made r e
   opens_ninth unused full h =
-      past_already unused (subst (λ b. cond b (Only d (unreadable NinthGate) r e) (Makes d made r e)) (sym (le-leb 8 (length d.gates) full)) h)
+      past_already unused (subst (λ b. cond b (Only before (unreadable NinthGate) r e) (Makes before made r e)) (sym (le-leb 8 (length gs) full)) h)
 
-  pub opens_makes : is_some (place_at n d.gates) ≡ false → length d.gates < 8 → Makes d made r e → Opens d n made r e
-  opens_makes unused room h =
-      past_already unused (subst (λ b. cond b (Only d (unreadable NinthGate) r e) (Makes d made r e)) (sym (lt-leb 8 (length d.gates) room)) h)
+  makes : is_some (place_of n gs) ≡ false → length gs < 8 → Makes before made r e → Opens before n made r e
+  makes unused room h =
+      past_already unused (subst (λ b. cond b (Only before (unreadable NinthGate) r e) (Makes before made r e)) (sym (lt-leb 8 (length gs) room)) h)
+
+  pub opens_denied : (x : Denial) → is_some (place_of n gs) ≡ false → length gs < 8 → made ≡ Err x → Only before (refused x) r e → Opens before n made r e
+  opens_denied x unused room denied h = makes unused room (subst (λ m. Makes before m r e) (sym denied) h)
+
+  pub opens_made : (g : State) → is_some (place_of n gs) ≡ false → length gs < 8 → made ≡ Ok g → Admits before g r e → Opens before n made r e
+  opens_made g unused room was h = makes unused room (subst (λ m. Makes before m r e) (sym was) h)
