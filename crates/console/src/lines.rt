@@ -1,8 +1,8 @@
 // Doing the lines of a job at the console's gates.
-ghost use Rattle.std.specs.Prelude.{◌≡◌, ◌<◌, [], length, IfSome};
-ghost use Rattle.job.specs.Commands.{said, reading};
+ghost use Rattle.std.specs.Prelude.{◌≡◌, ◌<◌, [], length, Some, IfSome};
+ghost use Rattle.job.specs.Commands.{answered, meant, reading};
 ghost use Rattle.console.specs.Deeds.{reply};
-ghost use Rattle.console.specs.Desks.{desk, desk_of, place_of, Admits, Opens, turn_reply, turned, AtGate, Did, Heeded, answered_as};
+ghost use Rattle.console.specs.Desks.{desk, desk_of, place_of, Admits, Opens, turn_reply, turned, AtGate, Heeded, answered_as};
 ghost use Rattle.console.specs.Piles.{pile_state};
 ghost use Rattle.job.specs.Books.{held_in, sheets, floor_of};
 ghost use Rattle.job.specs.Words.{words};
@@ -14,7 +14,7 @@ use crate::deed::act;
 use crate::opening::{Pile, open_gate};
 use crate::refusal::{Fault, Refusal};
 use gate::gate::Gate;
-use job::{Command, Deed, Opening, read_line};
+use job::{Command, Deed, Opening, Unreadable, read_line};
 use std::alloc::Global;
 
 // No more gates than this are open in one job.
@@ -84,11 +84,11 @@ impl Console {
         act(self.heap, gate, deed)
     }
 
-    // Does a command.
-    fn obey(&mut self, command: Command) -> Result<Answer, Refusal>
-        ensures did { Did (desk_of self.old) (said command.entry) (reply result) (desk_of self.new) }
+    // Does what was read, if it is a command.
+    fn obey(&mut self, read: Result<Command, Unreadable>) -> Result<Answer, Refusal>
+        ensures heeded { Heeded (desk_of self.old) (answered (meant read.entry)) (Some (reply result)) (desk_of self.new) }
     {
-        match command {
+        match read? {
             Command::Open(opening) => self.open(opening),
             Command::At(number) => self.turn(number),
             Command::Deed(deed) => self.at_gate(deed),
@@ -99,9 +99,6 @@ impl Console {
     pub fn line(&mut self, line: &[u8]) -> Option<Result<Answer, Refusal>>
         ensures heeded { Heeded (desk_of self.old) (reading line.now) (answered_as result) (desk_of self.new) }
     {
-        match read_line(line)? {
-            Ok(command) => Some(self.obey(command)),
-            Err(why) => Some(Err(why.into())),
-        }
+        Some(self.obey(read_line(line)?))
     }
 }
