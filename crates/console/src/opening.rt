@@ -12,7 +12,7 @@ use book::recall::Recall;
 use book::sheet::Sheet;
 use denials::denial::Denial;
 use gate::gate::Gate;
-use job::{Ground, Layers, Opening, next_entry, next_serial};
+use job::{Entries, Ground, Layers, Opening, Serials};
 use records::card::CardBook;
 use records::owned::OwnedLedger;
 
@@ -24,10 +24,8 @@ fn fill(text: &[u8]) -> Result<Sheet, Denial>
     ensures answer { MatchResult result (λ s. filled [] (listed (words text.now)) ≡ Ok (sheet_list s)) (λ d. filled [] (listed (words text.now)) ≡ Err d) }
 {
     let mut sheet = Sheet::new();
-    let mut rest = text;
-    while let Some((serial, after)) = next_serial(rest) {
+    for serial in Serials(text) {
         sheet.add(serial)?;
-        rest = after;
     }
     Ok(sheet)
 }
@@ -37,10 +35,8 @@ fn stock(book: Shelf, text: &[u8]) -> Result<Shelf, Denial>
     ensures answer { MatchResult result (λ b. stocked (shelf_means book) (held_in (words text.now)) ≡ Ok (shelf_means b)) (λ d. stocked (shelf_means book) (held_in (words text.now)) ≡ Err d) }
 {
     let mut stocked = book;
-    let mut rest = text;
-    while let Some((entry, after)) = next_entry(rest) {
+    for entry in Entries(text) {
         stocked.file(entry)?;
-        rest = after;
     }
     Ok(stocked)
 }

@@ -6,9 +6,10 @@ ghost use Rattle.console.specs.declared.refusal.Refusal.TheVariants.{Denied, Unr
 use denials::denial::Denial;
 use job::Unreadable;
 use std::alloc::{AllocError, AllocFailed};
+use std::error::Error;
 
 // Why a line has no effect though it is not denied.
-#[derive(Clone, Copy)]
+#[derive(Clone, Copy, Debug)]
 pub enum Fault {
     Line(Unreadable),
     NoGate,
@@ -19,11 +20,13 @@ pub enum Fault {
 }
 
 // What a book or a gate denied, or why the line came to neither.
-#[derive(Clone, Copy)]
+#[derive(Clone, Copy, Debug)]
 pub enum Refusal {
     Denied(Denial),
     Unreadable(Fault),
 }
+
+impl Error for Refusal {}
 
 impl From<Denial> for Refusal {
     ghost from_gives = { λ d r. r ≡ Denied d };

@@ -18,3 +18,24 @@ pub fn next_line(job: &[u8]) -> Option<(&[u8], &[u8])>
     }
     Some(cut(job, b'\n'))
 }
+
+// The lines of a job, in order.
+#[derive(Clone, Copy)]
+pub struct Lines<'a>(pub &'a [u8]);
+
+impl<'a> Iterator for Lines<'a> {
+    ghost use Rattle.std.specs.Iterator.{YieldsFirstRef, item_count};
+    ghost use Rattle.job.specs.Lines.{lines};
+
+    type Item = &'a [u8];
+
+    ghost next_gives = { YieldsFirstRef (λ s. lines s.0.now) };
+
+    ghost remaining = { item_count (λ s. lines s.0.now) };
+
+    fn next(&mut self) -> Option<&'a [u8]> {
+        let (line, after) = next_line(self.0)?;
+        self.0 = after;
+        Some(line)
+    }
+}

@@ -107,15 +107,15 @@ const STATEMENTS: [Row; 10] = [
 ];
 
 // The row's number behind its words, or why it has none.
-fn tell_row(rt: &HostRuntime, words: &str, answer: Result<u16, Denial>) -> io::Result<()> {
+fn tell_row(rt: &impl Print, words: &str, answer: Result<u16, Denial>) -> io::Result<()> {
     match answer {
         Ok(row) => println!(rt; "  {row}: {words}."),
         Err(denial) => println!(rt; "  {words}: {denial}."),
     }
 }
 
-// What was done, or why it was not.
-fn tell_done(rt: &HostRuntime, done: &str, answer: Result<(), Denial>) -> io::Result<()> {
+// What was done, or why it was not. No one function with `tell_row` would be plainer: there the words stand on both sides of the answer.
+fn tell_done(rt: &impl Print, done: &str, answer: Result<(), Denial>) -> io::Result<()> {
     match answer {
         Ok(()) => println!(rt; "{done}."),
         Err(denial) => println!(rt; "{denial}."),
@@ -123,7 +123,7 @@ fn tell_done(rt: &HostRuntime, done: &str, answer: Result<(), Denial>) -> io::Re
 }
 
 // Names all rows of the morning.
-fn name_rows<B: Book>(rt: &HostRuntime, gate: &mut Gate<B>) -> anyhow::Result<()> {
+fn name_rows<B: Book>(rt: &impl Print, gate: &mut Gate<B>) -> anyhow::Result<()> {
     println!(rt; "It names who takes part, the principals:")?;
     for row in &PRINCIPALS {
         tell_row(rt, row.words, gate.principal(row.form, row.x, row.y))?;
@@ -137,7 +137,7 @@ fn name_rows<B: Book>(rt: &HostRuntime, gate: &mut Gate<B>) -> anyhow::Result<()
 
 // Files an entry and tells what came of it.
 fn file<B: Book>(
-    rt: &HostRuntime,
+    rt: &impl Print,
     gate: &mut Gate<B>,
     serial: u16,
     standing: u8,
@@ -148,13 +148,13 @@ fn file<B: Book>(
 }
 
 // Strikes a serial and tells what came of it.
-fn strike<B: Book>(rt: &HostRuntime, gate: &mut Gate<B>, serial: u16) -> io::Result<()> {
+fn strike<B: Book>(rt: &impl Print, gate: &mut Gate<B>, serial: u16) -> io::Result<()> {
     print!(rt; "  serial {serial}: ")?;
     tell_done(rt, "struck", gate.strike(serial))
 }
 
 // An entry of the book in words.
-fn tell_entry(rt: &HostRuntime, entry: Entry) -> io::Result<()> {
+fn tell_entry(rt: &impl Print, entry: Entry) -> io::Result<()> {
     let serial = entry.serial;
     let row = entry.row;
     match entry.standing {
@@ -164,7 +164,7 @@ fn tell_entry(rt: &HostRuntime, entry: Entry) -> io::Result<()> {
 }
 
 // Tells what is live, from entry to entry in rising serial order.
-fn show_book<B: Book>(rt: &HostRuntime, gate: &Gate<B>) -> anyhow::Result<()> {
+fn show_book<B: Book>(rt: &impl Print, gate: &Gate<B>) -> anyhow::Result<()> {
     println!(rt; "The book now holds:")?;
     for entry in gate.entries() {
         tell_entry(rt, entry)?;
@@ -173,7 +173,7 @@ fn show_book<B: Book>(rt: &HostRuntime, gate: &Gate<B>) -> anyhow::Result<()> {
 }
 
 // The rule and the two sayings are filed, a fourth finds no place, and one is struck to make room.
-fn keep_the_book<B: Book>(rt: &HostRuntime, gate: &mut Gate<B>) -> anyhow::Result<()> {
+fn keep_the_book<B: Book>(rt: &impl Print, gate: &mut Gate<B>) -> anyhow::Result<()> {
     println!(rt; "The paint house files its rule, and shop and lab file what they say.")?;
     file(rt, gate, 1, 1, 4)?;
     file(rt, gate, 2, 2, 5)?;
@@ -188,7 +188,7 @@ fn keep_the_book<B: Book>(rt: &HostRuntime, gate: &mut Gate<B>) -> anyhow::Resul
 }
 
 // Tells the whole task, from an empty ledger of three records on.
-pub fn tell(rt: &HostRuntime) -> anyhow::Result<()> {
+pub fn tell(rt: &impl Print) -> anyhow::Result<()> {
     println!(rt; "The morning of one recipe that needs shop and lab together.")?;
     let mut records = [BLANK; 3];
     let mut gate = Gate::new(7, Ledger::new(&mut records));
