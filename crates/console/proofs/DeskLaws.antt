@@ -4,7 +4,8 @@ use Rattle.std.specs.List.{position, prefix_len, slice_get}
 use Rattle.std.specs.Prelude.{not}
 use Rattle.std.proofs.lemmas.List.{length-map, map-set}
 use Rattle.gate.specs.declared.gate.Gate.{Gate}
-use Rattle.std.proofs.lemmas.Option.{slice_get-get_or}
+use Rattle.std.specs.Option.{option_map}
+use Rattle.std.proofs.lemmas.Option.{slice_get-get_or, slice_get-map}
 use borrow.Author.Tests.{lt-leb}
 use Rattle.denials.specs.declared.denial.Denial.{Denial}
 use Rattle.gate.specs.State.{State}
@@ -25,15 +26,6 @@ position_map f is xs =
     let sized = length-map xs f in
     cc
 
-pub nth_map_some : {X Y : Type 0} (f : X → Y) (xs : List X) (i : ℕ) (x : X) → slice_get xs i ≡ Some x → slice_get (map f xs) i ≡ Some (f x)
-nth_map_some f [] i x e = let z : ◌≡◌ {A = ℕ} 0 1 = cc in absurd (omega arith)
-nth_map_some f (y ∷ ys) zero x e = let same : y ≡ x = cc in ap (λ v. Some (f v)) same
-nth_map_some f (y ∷ ys) (suc i) x e = nth_map_some f ys i x e
-
--- an element that was read is the one at its number
-pub nth_read_at : {X : Type 0} (xs : List X) (i : ℕ) (x : X) → i < length xs → x ≡ get_or xs i x → slice_get xs i ≡ Some x
-nth_read_at xs i x within read = slice_get-get_or xs i x within ∙ ap Some (sym read)
-
 -- the place of a number on the desk
 pub place_on_desk : (n : ℕ) (gs : List (Gate Pile)) → place_at n (map pile_state gs) ≡ place_of n gs
 place_on_desk n gs = position_map pile_state (λ g. eqb g.number n) gs
@@ -41,7 +33,8 @@ place_on_desk n gs = position_map pile_state (λ g. eqb g.number n) gs
 -- a deed at the current gate leaves every other gate as it was
 pub at_state : (gs : List (Gate Pile)) (n : ℕ) (gate after : Gate Pile) (deed : Deed) (r : Reply) → n < length gs → gate ≡ get_or gs n gate → Replies deed (pile_state gate) r → pile_state after ≡ deed_left deed (pile_state gate) → AtGate (desk (map pile_state gs) n) deed r (desk (map pile_state (set gs n after)) n)
 at_state gs n gate after deed r within read replies left =
-    let found = nth_map_some pile_state gs n gate (nth_read_at gs n gate within read) in
+    let here : slice_get gs n ≡ Some gate = slice_get-get_or gs n gate within ∙ ap Some (sym read) in
+    let found = slice_get-map pile_state gs n ∙ ap (option_map pile_state) here in
     subst (λ (o : Option State). AtState (desk (map pile_state gs) n) deed o r (desk (map pile_state (set gs n after)) n)) (sym found)
       (replies, ap (λ ss. desk ss n) (map-set pile_state gs n after ∙ ap (set (map pile_state gs) n) left))
 
