@@ -1,6 +1,6 @@
 // Cuts a job into its lines.
 ghost use Rattle.std.specs.Prelude.{◌≡◌, [], ◌∷◌, MatchOption};
-ghost use Rattle.std.specs.List.{AllByRecursion};
+ghost use Rattle.std.specs.List.{All};
 ghost use Rattle.job.specs.Words.{Lacks};
 ghost use Rattle.job.specs.Lines.{lines, Whole};
 
@@ -11,7 +11,7 @@ use crate::words::cut;
 pub fn next_line(job: &[u8]) -> Option<(&[u8], &[u8])>
     ensures first { MatchOption result (job.now ≡ []) (λ p. lines job.now ≡ p.0.now ∷ lines p.1.now) }
     ensures whole { Whole job.now }
-    ensures single { AllByRecursion (Lacks 10) (lines job.now) }
+    ensures single { All (Lacks 10) (lines job.now) }
 {
     if job.is_empty() {
         return None;
