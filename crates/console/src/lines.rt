@@ -4,9 +4,7 @@ ghost use Rattle.job.specs.Commands.{answered, meant, reading};
 ghost use Rattle.console.specs.Deeds.{reply};
 ghost use Rattle.console.specs.Desks.{desk, desk_of, place_of, Admits, Opens, turn_reply, turned, AtGate, Heeded, answered_as};
 ghost use Rattle.console.specs.Piles.{pile_state};
-ghost use Rattle.job.specs.Books.{held_in, sheets, floor_of};
-ghost use Rattle.job.specs.Words.{words};
-ghost use Rattle.console.specs.Openings.{opened};
+ghost use Rattle.console.specs.Openings.{opened_by};
 
 use crate::answer::Answer;
 use crate::console::Console;
@@ -54,7 +52,7 @@ impl Console {
     // Opens the gate that an opening asks for and makes it current.
     #[tactic(auto, using(crate::proofs::DeskLaws::opens_already, crate::proofs::DeskLaws::opens_ninth, crate::proofs::DeskLaws::opens_denied, crate::proofs::DeskLaws::opens_made))]
     fn open(&mut self, opening: Opening) -> Result<Answer, Refusal>
-        ensures did { Opens (desk_of self.old) opening.entry.gate (opened opening.entry.gate (sheets opening.entry.layers) (floor_of opening.entry.ground) (held_in (words opening.entry.entries.now))) (reply result) (desk_of self.new) }
+        ensures did { Opens (desk_of self.old) opening.entry.gate (opened_by opening.entry) (reply result) (desk_of self.new) }
     {
         if place_of(&self.gates, opening.gate).is_some() {
             return Err(Fault::OpenAlready.into());

@@ -19,10 +19,12 @@ impl fmt::Display for Fault {
 
 fn list<W: fmt::Write>(entries: &[Entry], f: &mut fmt::Formatter<W>) -> fmt::Result {
     f.write_str("live")?;
-    for entry in entries {
-        let serial = entry.serial;
-        let standing = entry.standing;
-        let row = entry.row;
+    for &Entry {
+        serial,
+        standing,
+        row,
+    } in entries
+    {
         write!(f, " {serial}:{standing}:{row}")?;
     }
     Ok(())

@@ -5,4 +5,4 @@ use Rattle.console.specs.Openings.{stocked, shelf_means}
 use Rattle.console.proofs.opening.stock.Given as goal
 
 abbrev pub invariant-loop-entry : goal.invariant-loop-entry
-invariant-loop-entry l = stocked (shelf_means l.stocked) (held_in (words l.entry-iterator.0.now)) ≡ stocked (shelf_means l.initial.stocked) (held_in (words l.text))
+invariant-loop-entry l = stocked (shelf_means l.book) (held_in (words l.entry-iterator.0.now)) ≡ stocked (shelf_means l.initial.book) (held_in (words l.text))
