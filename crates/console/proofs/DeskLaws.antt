@@ -43,28 +43,17 @@ module _ (gs : List (Gate Pile)) (k n : ℕ) (made : Result State Denial) (r : R
   abbrev before : Desk
   before = desk (map pile_state gs) k
 
-  taken : is_some (place_of n gs) ≡ is_some (place_at n (map pile_state gs))
-  taken = ap is_some (sym (place_on_desk n gs))
+  taken : is_some (place_at n (map pile_state gs)) ≡ is_some (place_of n gs)
+  taken = ap is_some (place_on_desk n gs)
 
   pub opens_already : is_some (place_of n gs) ≡ true → Only before (unreadable OpenAlready) r e → Opens before n made r e
-  opens_already used h =
-      subst (λ b. cond b (Only before (unreadable OpenAlready) r e) (cond (leb 8 (length before.gates)) (Only before (unreadable NinthGate) r e) (Makes before made r e))) (sym used ∙ taken) h
-
-  past_already : is_some (place_of n gs) ≡ false → cond (leb 8 (length gs)) (Only before (unreadable NinthGate) r e) (Makes before made r e) → Opens before n made r e
-  past_already unused h =
-      subst (λ b. cond b (Only before (unreadable OpenAlready) r e) (cond (leb 8 (length before.gates)) (Only before (unreadable NinthGate) r e) (Makes before made r e))) (sym unused ∙ taken)
-        (subst (λ m. cond (leb 8 m) (Only before (unreadable NinthGate) r e) (Makes before made r e)) (sym (length-map gs pile_state)) h)
+  opens_already used h = rw (taken, used) h
 
   pub opens_ninth : is_some (place_of n gs) ≡ false → 8 ≤ length gs → Only before (unreadable NinthGate) r e → Opens before n made r e
-  opens_ninth unused full h =
-      past_already unused (subst (λ b. cond b (Only before (unreadable NinthGate) r e) (Makes before made r e)) (sym (le-leb 8 (length gs) full)) h)
-
-  makes : is_some (place_of n gs) ≡ false → length gs < 8 → Makes before made r e → Opens before n made r e
-  makes unused room h =
-      past_already unused (subst (λ b. cond b (Only before (unreadable NinthGate) r e) (Makes before made r e)) (sym (lt-leb 8 (length gs) room)) h)
+  opens_ninth unused full h = rw (taken, unused, length-map gs pile_state, le-leb 8 (length gs) full) h
 
   pub opens_denied : (x : Denial) → is_some (place_of n gs) ≡ false → length gs < 8 → made ≡ Err x → Only before (refused x) r e → Opens before n made r e
-  opens_denied x unused room denied h = makes unused room (subst (λ m. Makes before m r e) (sym denied) h)
+  opens_denied x unused room denied h = rw (taken, unused, length-map gs pile_state, lt-leb 8 (length gs) room, denied) h
 
   pub opens_made : (g : State) → is_some (place_of n gs) ≡ false → length gs < 8 → made ≡ Ok g → Admits before g r e → Opens before n made r e
-  opens_made g unused room was h = makes unused room (subst (λ m. Makes before m r e) (sym was) h)
+  opens_made g unused room was h = rw (taken, unused, length-map gs pile_state, lt-leb 8 (length gs) room, was) h

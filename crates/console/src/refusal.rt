@@ -63,7 +63,7 @@ impl From<AllocError> for Refusal {
 impl<T: Drop> From<AllocFailed<T>> for Refusal {
     ghost from_gives = { λ _ r. r ≡ Unread NoMemory };
 
-    fn from(_: AllocFailed<T>) -> Refusal {
-        Refusal::Unreadable(Fault::NoMemory)
+    fn from(failed: AllocFailed<T>) -> Refusal {
+        Refusal::from(AllocError::from(failed))
     }
 }
