@@ -1,16 +1,19 @@
 -- The console's gates as a list: places, and what each looks like on the desk.
-use Rattle.std.proofs.Common.{◌≡◌, ℕ, zero, suc, ◌+◌, ◌<◌, ◌≤◌, Bool, true, false, cond, eqb, leb, List, [], ◌∷◌, map, length, get_or, is_some, Some, Result, sym, refl, ap, ◌∙◌, subst, arith, le-leb}
+use Rattle.std.proofs.Common.{◌≡◌, ℕ, zero, suc, ◌+◌, ◌<◌, ◌≤◌, Bool, true, false, cond, eqb, leb, List, [], ◌∷◌, map, set, length, get_or, Option, is_some, Some, Ok, Err, Result, sym, refl, ap, ◌∙◌, subst, arith, le-leb}
 use Rattle.std.specs.List.{position, prefix_len, slice_get}
 use Rattle.std.specs.Prelude.{not}
-use Rattle.std.proofs.lemmas.List.{length-map}
+use Rattle.std.proofs.lemmas.List.{length-map, map-set}
 use Rattle.gate.specs.declared.gate.Gate.{Gate}
-use Rattle.std.proofs.lemmas.Option.{slice_get-get_or}
+use Rattle.std.specs.Option.{option_map}
+use Rattle.std.proofs.lemmas.Option.{slice_get-get_or, slice_get-map}
 use borrow.Author.Tests.{lt-leb}
 use Rattle.denials.specs.declared.denial.Denial.{Denial}
 use Rattle.gate.specs.State.{State}
-use Rattle.console.specs.declared.answer.Fault.TheVariants.{OpenAlready, NinthGate}
-use Rattle.console.specs.Replies.{Reply, unreadable}
-use Rattle.console.specs.Desks.{Desk, place_at, place_of, Only, Makes, Opens}
+use Rattle.console.specs.declared.refusal.Fault.TheVariants.{OpenAlready, NinthGate}
+use Rattle.console.specs.Replies.{Reply, unreadable, refused}
+use Rattle.console.specs.Deeds.{Replies, deed_left}
+use Rattle.job.specs.declared.command.Deed.{Deed}
+use Rattle.console.specs.Desks.{Desk, desk, place_at, place_of, AtState, AtGate, Admits, Only, Makes, Opens}
 use Rattle.console.specs.Piles.{Pile, pile_state}
 
 prefix_len_map : {X Y : Type 0} (f : X → Y) (is : Y → Bool) (xs : List X) → prefix_len is (map f xs) ≡ prefix_len (λ x. is (f x)) xs
@@ -23,33 +26,34 @@ position_map f is xs =
     let sized = length-map xs f in
     cc
 
-pub nth_map_some : {X Y : Type 0} (f : X → Y) (xs : List X) (i : ℕ) (x : X) → slice_get xs i ≡ Some x → slice_get (map f xs) i ≡ Some (f x)
-nth_map_some f [] i x e = let z : ◌≡◌ {A = ℕ} 0 1 = cc in absurd (omega arith)
-nth_map_some f (y ∷ ys) zero x e = let same : y ≡ x = cc in ap (λ v. Some (f v)) same
-nth_map_some f (y ∷ ys) (suc i) x e = nth_map_some f ys i x e
-
--- an element that was read is the one at its number
-pub nth_read_at : {X : Type 0} (xs : List X) (i : ℕ) (x : X) → i < length xs → x ≡ get_or xs i x → slice_get xs i ≡ Some x
-nth_read_at xs i x within read = slice_get-get_or xs i x within ∙ ap Some (sym read)
-
 -- the place of a number on the desk
 pub place_on_desk : (n : ℕ) (gs : List (Gate Pile)) → place_at n (map pile_state gs) ≡ place_of n gs
 place_on_desk n gs = position_map pile_state (λ g. eqb g.number n) gs
 
+-- a deed at the current gate leaves every other gate as it was
+pub at_state : (gs : List (Gate Pile)) (n : ℕ) (gate after : Gate Pile) (deed : Deed) (r : Reply) → n < length gs → gate ≡ get_or gs n gate → Replies deed (pile_state gate) r → pile_state after ≡ deed_left deed (pile_state gate) → AtGate (desk (map pile_state gs) n) deed r (desk (map pile_state (set gs n after)) n)
+at_state gs n gate after deed r within read replies left =
+    let here : slice_get gs n ≡ Some gate = slice_get-get_or gs n gate within ∙ ap Some (sym read) in
+    let found = slice_get-map pile_state gs n ∙ ap (option_map pile_state) here in
+    subst (λ (o : Option State). AtState (desk (map pile_state gs) n) deed o r (desk (map pile_state (set gs n after)) n)) (sym found)
+    (replies, ap (λ ss. desk ss n) (map-set pile_state gs n after ∙ ap (set (map pile_state gs) n) left))
+
 -- the ways through an opening
-module _ (d : Desk) (n : ℕ) (made : Result State Denial) (r : Reply) (e : Desk) where
-  pub opens_already : is_some (place_at n d.gates) ≡ true → Only d (unreadable OpenAlready) r e → Opens d n made r e
-  opens_already taken h =
-      subst (λ b. cond b (Only d (unreadable OpenAlready) r e) (cond (leb 8 (length d.gates)) (Only d (unreadable NinthGate) r e) (Makes d made r e))) (sym taken) h
+module _ (gs : List (Gate Pile)) (k n : ℕ) (made : Result State Denial) (r : Reply) (e : Desk) where
+  abbrev before : Desk
+  before = desk (map pile_state gs) k
 
-  past_already : is_some (place_at n d.gates) ≡ false → cond (leb 8 (length d.gates)) (Only d (unreadable NinthGate) r e) (Makes d made r e) → Opens d n made r e
-  past_already unused h =
-      subst (λ b. cond b (Only d (unreadable OpenAlready) r e) (cond (leb 8 (length d.gates)) (Only d (unreadable NinthGate) r e) (Makes d made r e))) (sym unused) h
+  taken : is_some (place_at n (map pile_state gs)) ≡ is_some (place_of n gs)
+  taken = ap is_some (place_on_desk n gs)
 
-  pub opens_ninth : is_some (place_at n d.gates) ≡ false → 8 ≤ length d.gates → Only d (unreadable NinthGate) r e → Opens d n made r e
-  opens_ninth unused full h =
-      past_already unused (subst (λ b. cond b (Only d (unreadable NinthGate) r e) (Makes d made r e)) (sym (le-leb 8 (length d.gates) full)) h)
+  pub opens_already : is_some (place_of n gs) ≡ true → Only before (unreadable OpenAlready) r e → Opens before n made r e
+  opens_already used h = rw (taken, used) h
 
-  pub opens_makes : is_some (place_at n d.gates) ≡ false → length d.gates < 8 → Makes d made r e → Opens d n made r e
-  opens_makes unused room h =
-      past_already unused (subst (λ b. cond b (Only d (unreadable NinthGate) r e) (Makes d made r e)) (sym (lt-leb 8 (length d.gates) room)) h)
+  pub opens_ninth : is_some (place_of n gs) ≡ false → 8 ≤ length gs → Only before (unreadable NinthGate) r e → Opens before n made r e
+  opens_ninth unused full h = rw (taken, unused, length-map gs pile_state, le-leb 8 (length gs) full) h
+
+  pub opens_denied : (x : Denial) → is_some (place_of n gs) ≡ false → length gs < 8 → made ≡ Err x → Only before (refused x) r e → Opens before n made r e
+  opens_denied x unused room denied h = rw (taken, unused, length-map gs pile_state, lt-leb 8 (length gs) room, denied) h
+
+  pub opens_made : (g : State) → is_some (place_of n gs) ≡ false → length gs < 8 → made ≡ Ok g → Admits before g r e → Opens before n made r e
+  opens_made g unused room was h = rw (taken, unused, length-map gs pile_state, lt-leb 8 (length gs) room, was) h

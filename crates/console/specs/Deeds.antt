@@ -1,6 +1,6 @@
 -- What a gate is asked by a line, what comes of it, and what is answered.
 --
--- reply a              the answer a as a value
+-- reply r              the answer or the refusal r as a value
 -- named_reply r        what is answered to a naming: the row, or the denial
 -- done_reply yes r     what is answered to a filing or a striking
 -- Lists es r           r lists the entries es, or there is no memory for the list
@@ -12,22 +12,24 @@ use Rattle.book.specs.declared.entry.Entry.{Entry}
 use Rattle.gate.specs.State.{State, principal_call, principal_left, statement_call, statement_left, filing, filing_left, striking, striking_left}
 use Rattle.console.specs.declared.answer.Answer.{Answer}
 use Rattle.console.specs.declared.answer.Answer.TheVariants as answers
-use Rattle.console.specs.declared.answer.Fault.{Fault}
-use Rattle.console.specs.declared.answer.Fault.TheVariants as faults
+use Rattle.console.specs.declared.refusal.Fault.{Fault}
+use Rattle.console.specs.declared.refusal.Fault.TheVariants as faults
+use Rattle.console.specs.declared.refusal.Refusal.{Refusal}
+use Rattle.console.specs.declared.refusal.Refusal.TheVariants as refusals
 use Rattle.job.specs.declared.command.Deed.{Deed}
 use Rattle.job.specs.declared.command.Deed.TheVariants.{Principal, Statement, File, Strike, List as Listing}
 use Rattle.gate.specs.Listings.{all_live}
 use Rattle.console.specs.Replies.{Reply, opened_gate, at_gate, row, filed, struck, refused, unreadable, live}
 
-abbrev pub reply : Answer → Reply
-reply (answers.Opened g) = opened_gate g
-reply (answers.At g) = at_gate g
-reply (answers.Row n) = row n
-reply answers.Filed = filed
-reply answers.Struck = struck
-reply (answers.Denied d) = refused d
-reply (answers.Unreadable f) = unreadable f
-reply (answers.Live es) = live (vec_items es)
+abbrev pub reply : Result Answer Refusal → Reply
+reply (Ok (answers.Opened g)) = opened_gate g
+reply (Ok (answers.At g)) = at_gate g
+reply (Ok (answers.Row n)) = row n
+reply (Ok answers.Filed) = filed
+reply (Ok answers.Struck) = struck
+reply (Ok (answers.Live es)) = live (vec_items es)
+reply (Err (refusals.Denied d)) = refused d
+reply (Err (refusals.Unreadable f)) = unreadable f
 
 abbrev pub named_reply : Result ℕ Denial → Reply
 named_reply (Ok n) = row n

@@ -17,7 +17,8 @@ use Rattle.gate.specs.State.{State}
 use Rattle.job.specs.Commands.{Said, opens, turns, principal, statement, files, strikes, lists, Heard, silent, command}
 use Rattle.job.specs.Commands.{unreadable as misread}
 use Rattle.console.specs.declared.answer.Answer.{Answer}
-use Rattle.console.specs.declared.answer.Fault.TheVariants.{Line, NoGate, OpenAlready, NotOpen, NinthGate}
+use Rattle.console.specs.declared.refusal.Fault.TheVariants.{Line, NoGate, OpenAlready, NotOpen, NinthGate}
+use Rattle.console.specs.declared.refusal.Refusal.{Refusal}
 use Rattle.console.specs.declared.console.Console.{Console}
 use Rattle.job.specs.declared.command.Deed.{Deed}
 use Rattle.job.specs.declared.command.Naming.{Naming}
@@ -99,9 +100,9 @@ Did d (files serial standing n) r e = AtGate d (File serial standing n) r e
 Did d (strikes serial) r e = AtGate d (Strike serial) r e
 Did d lists r e = AtGate d Listing r e
 
-abbrev pub answered_as : Option Answer → Option Reply
+abbrev pub answered_as : Option (Result Answer Refusal) → Option Reply
 answered_as None = None
-answered_as (Some a) = Some (reply a)
+answered_as (Some r) = Some (reply r)
 
 abbrev pub Heeded : Desk → Heard → Option Reply → Desk → Type 0
 Heeded d silent None e = e ≡ d

@@ -9,6 +9,7 @@
 -- sheet_at k ls         the serials of the layer k, counted from the left; none where there are fewer layers
 -- both_filled ls        the serials on the sheets of the upper and the lower layer, or the first denial
 -- opened n ls f hs      the state of the gate that `open` makes, or the denial
+-- opened_by o           the same for the opening o
 use Rattle.std.specs.Prelude.{ℕ, min, false, cond, List, [], ◌∷◌, Ok, Err, Result, ◌==◌, slice_index_or}
 use Rattle.denials.specs.declared.denial.Denial.{Denial}
 use Rattle.book.specs.declared.entry.Entry.{Entry}
@@ -19,7 +20,9 @@ use Rattle.book.specs.Meaning.{Meaning, means, empty_book, file_answer, file_aft
 use Rattle.book.specs.Recall.{recall_means}
 use Rattle.book.specs.Sheet.{sheet_add_answer, sheet_add_after}
 use Rattle.gate.specs.State.{State, new_gate}
-use Rattle.job.specs.Books.{Floor, ledger, card, Held, held}
+use Rattle.job.specs.declared.command.Opening.{Opening}
+use Rattle.job.specs.Books.{Floor, ledger, card, Held, held, sheets, floor_of, held_in}
+use Rattle.job.specs.Words.{words}
 use Rattle.console.specs.declared.shelf.Shelf.{Shelf}
 use Rattle.console.specs.Shelves.{shelf_live, shelf_barred, shelf_free}
 
@@ -68,3 +71,6 @@ piled n (Ok p) (Ok m) = Ok (new_gate n (recall_means p.0 (recall_means p.1 m)))
 
 abbrev pub opened : ℕ → List (List ℕ) → Floor → List Held → Result State Denial
 opened n ls f hs = piled n (both_filled ls) (stocked (floor_means f) hs)
+
+abbrev pub opened_by : Opening → Result State Denial
+opened_by o = opened o.gate (sheets o.layers) (floor_of o.ground) (held_in (words o.entries.now))

@@ -4,7 +4,7 @@
 use Rattle.std.specs.Prelude.{ℕ, List}
 use Rattle.denials.specs.declared.denial.Denial.{Denial}
 use Rattle.book.specs.declared.entry.Entry.{Entry}
-use Rattle.console.specs.declared.answer.Fault.{Fault}
+use Rattle.console.specs.declared.refusal.Fault.{Fault}
 
 pub data Reply : Type 0 where
   opened_gate : ℕ → Reply

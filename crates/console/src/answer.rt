@@ -1,18 +1,5 @@
-// What the console answers to a line.
+// What the console answers to a line that was done.
 use book::entry::Entry;
-use denials::denial::Denial;
-use job::Unreadable;
-
-// Why a line has no effect though it is not denied.
-#[derive(Clone, Copy)]
-pub enum Fault {
-    Line(Unreadable),
-    NoGate,
-    OpenAlready,
-    NotOpen,
-    NinthGate,
-    NoMemory,
-}
 
 #[derive(Drop)]
 pub enum Answer {
@@ -21,7 +8,5 @@ pub enum Answer {
     Row(u16),
     Filed,
     Struck,
-    Denied(Denial),
-    Unreadable(Fault),
     Live(Vec<Entry>),
 }

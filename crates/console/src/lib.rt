@@ -7,5 +7,6 @@ mod deed;
 mod lines;
 mod listing;
 mod opening;
+pub mod refusal;
 pub mod shelf;
 pub mod words;

@@ -1,19 +1,18 @@
 // Doing the lines of a job at the console's gates.
-ghost use Rattle.std.specs.Prelude.{◌≡◌, ◌<◌, [], length, IfSome};
-ghost use Rattle.job.specs.Commands.{said, reading};
+ghost use Rattle.std.specs.Prelude.{◌≡◌, ◌<◌, [], length, Some, IfSome};
+ghost use Rattle.job.specs.Commands.{answered, meant, reading};
 ghost use Rattle.console.specs.Deeds.{reply};
-ghost use Rattle.console.specs.Desks.{desk, desk_of, place_of, Admits, Opens, turn_reply, turned, AtGate, Did, Heeded, answered_as};
+ghost use Rattle.console.specs.Desks.{desk, desk_of, place_of, Admits, Opens, turn_reply, turned, AtGate, Heeded, answered_as};
 ghost use Rattle.console.specs.Piles.{pile_state};
-ghost use Rattle.job.specs.Books.{held_in, sheets, floor_of};
-ghost use Rattle.job.specs.Words.{words};
-ghost use Rattle.console.specs.Openings.{opened};
+ghost use Rattle.console.specs.Openings.{opened_by};
 
-use crate::answer::{Answer, Fault};
+use crate::answer::Answer;
 use crate::console::Console;
 use crate::deed::act;
 use crate::opening::{Pile, open_gate};
+use crate::refusal::{Fault, Refusal};
 use gate::gate::Gate;
-use job::{Command, Deed, Opening, read_line};
+use job::{Command, Deed, Opening, Unreadable, read_line};
 use std::alloc::Global;
 
 // No more gates than this are open in one job.
@@ -40,69 +39,54 @@ impl Console {
     }
 
     // Takes a gate in and makes it current.
-    fn admit(&mut self, gate: Gate<Pile>) -> Answer
+    fn admit(&mut self, gate: Gate<Pile>) -> Result<Answer, Refusal>
         ensures did { Admits (desk_of self.old) (pile_state gate) (reply result) (desk_of self.new) }
     {
         let number = gate.number();
         let place = self.gates.len();
-        match self.gates.push(gate) {
-            Ok(()) => {
-                self.current = place;
-                Answer::Opened(number)
-            }
-            Err(_) => Answer::Unreadable(Fault::NoMemory),
-        }
+        self.gates.push(gate)?;
+        self.current = place;
+        Ok(Answer::Opened(number))
     }
 
     // Opens the gate that an opening asks for and makes it current.
-    fn open(&mut self, opening: Opening) -> Answer
-        ensures did { Opens (desk_of self.old) opening.entry.gate (opened opening.entry.gate (sheets opening.entry.layers) (floor_of opening.entry.ground) (held_in (words opening.entry.entries.now))) (reply result) (desk_of self.new) }
+    #[tactic(auto, using(crate::proofs::DeskLaws::opens_already, crate::proofs::DeskLaws::opens_ninth, crate::proofs::DeskLaws::opens_denied, crate::proofs::DeskLaws::opens_made))]
+    fn open(&mut self, opening: Opening) -> Result<Answer, Refusal>
+        ensures did { Opens (desk_of self.old) opening.entry.gate (opened_by opening.entry) (reply result) (desk_of self.new) }
     {
         if place_of(&self.gates, opening.gate).is_some() {
-            return Answer::Unreadable(Fault::OpenAlready);
+            return Err(Fault::OpenAlready.into());
         }
         if self.gates.len() >= GATES {
-            return Answer::Unreadable(Fault::NinthGate);
+            return Err(Fault::NinthGate.into());
         }
-        match open_gate(opening) {
-            Ok(gate) => self.admit(gate),
-            Err(denial) => Answer::Denied(denial),
-        }
+        self.admit(open_gate(opening)?)
     }
 
     // Makes an open gate current.
-    fn turn(&mut self, number: u32) -> Answer
+    #[tactic(auto, using(crate::proofs::DeskLaws::place_on_desk))]
+    fn turn(&mut self, number: u32) -> Result<Answer, Refusal>
         ensures answer { reply result ≡ turn_reply (desk_of self.old) number }
         ensures after { desk_of self.new ≡ turned (desk_of self.old) number }
     {
-        match place_of(&self.gates, number) {
-            Some(place) => {
-                self.current = place;
-                Answer::At(number)
-            }
-            None => Answer::Unreadable(Fault::NotOpen),
-        }
+        self.current = place_of(&self.gates, number).ok_or(Fault::NotOpen)?;
+        Ok(Answer::At(number))
     }
 
     // Does a deed at the current gate.
-    fn at_gate(&mut self, deed: Deed) -> Answer
+    #[tactic(auto, using(crate::proofs::DeskLaws::at_state))]
+    fn at_gate(&mut self, deed: Deed) -> Result<Answer, Refusal>
         ensures did { AtGate (desk_of self.old) deed (reply result) (desk_of self.new) }
     {
-        let current = self.current;
-        if current >= self.gates.len() {
-            return Answer::Unreadable(Fault::NoGate);
-        }
-        let mut gate = self.gates[current];
-        let answer = act(self.heap, &mut gate, deed);
-        self.gates[current] = gate;
-        answer
+        let gate = self.gates.get_mut(self.current).ok_or(Fault::NoGate)?;
+        act(self.heap, gate, deed)
     }
 
-    // Does a command.
-    fn obey(&mut self, command: Command) -> Answer
-        ensures did { Did (desk_of self.old) (said command.entry) (reply result) (desk_of self.new) }
+    // Does what was read, if it is a command.
+    fn obey(&mut self, read: Result<Command, Unreadable>) -> Result<Answer, Refusal>
+        ensures heeded { Heeded (desk_of self.old) (answered (meant read.entry)) (Some (reply result)) (desk_of self.new) }
     {
-        match command {
+        match read? {
             Command::Open(opening) => self.open(opening),
             Command::At(number) => self.turn(number),
             Command::Deed(deed) => self.at_gate(deed),
@@ -110,12 +94,9 @@ impl Console {
     }
 
     // Does one line of a job, without its newline; a silent line has no answer.
-    pub fn line(&mut self, line: &[u8]) -> Option<Answer>
+    pub fn line(&mut self, line: &[u8]) -> Option<Result<Answer, Refusal>>
         ensures heeded { Heeded (desk_of self.old) (reading line.now) (answered_as result) (desk_of self.new) }
     {
-        match read_line(line)? {
-            Ok(command) => Some(self.obey(command)),
-            Err(why) => Some(Answer::Unreadable(Fault::Line(why))),
-        }
+        Some(self.obey(read_line(line)?))
     }
 }

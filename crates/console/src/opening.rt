@@ -3,7 +3,7 @@ ghost use Rattle.std.specs.Prelude.{◌≡◌, [], Ok, Err, MatchResult};
 ghost use Rattle.book.specs.Sheet.{sheet_list};
 ghost use Rattle.job.specs.Books.{listed, held_in, sheets, floor_of};
 ghost use Rattle.job.specs.Words.{words};
-ghost use Rattle.console.specs.Openings.{filled, both_filled, stocked, opened, shelf_means, floor_means};
+ghost use Rattle.console.specs.Openings.{filled, both_filled, stocked, opened_by, shelf_means, floor_means};
 ghost use Rattle.console.specs.Piles.{pile_state};
 
 use crate::shelf::Shelf;
@@ -12,7 +12,7 @@ use book::recall::Recall;
 use book::sheet::Sheet;
 use denials::denial::Denial;
 use gate::gate::Gate;
-use job::{Ground, Layers, Opening, next_entry, next_serial};
+use job::{Entries, Ground, Layers, Opening, Serials};
 use records::card::CardBook;
 use records::owned::OwnedLedger;
 
@@ -24,25 +24,20 @@ fn fill(text: &[u8]) -> Result<Sheet, Denial>
     ensures answer { MatchResult result (λ s. filled [] (listed (words text.now)) ≡ Ok (sheet_list s)) (λ d. filled [] (listed (words text.now)) ≡ Err d) }
 {
     let mut sheet = Sheet::new();
-    let mut rest = text;
-    while let Some((serial, after)) = next_serial(rest) {
+    for serial in Serials(text) {
         sheet.add(serial)?;
-        rest = after;
     }
     Ok(sheet)
 }
 
 // The book with the entries of the text filed in it.
-fn stock(book: Shelf, text: &[u8]) -> Result<Shelf, Denial>
+fn stock(mut book: Shelf, text: &[u8]) -> Result<Shelf, Denial>
     ensures answer { MatchResult result (λ b. stocked (shelf_means book) (held_in (words text.now)) ≡ Ok (shelf_means b)) (λ d. stocked (shelf_means book) (held_in (words text.now)) ≡ Err d) }
 {
-    let mut stocked = book;
-    let mut rest = text;
-    while let Some((entry, after)) = next_entry(rest) {
-        stocked.file(entry)?;
-        rest = after;
+    for entry in Entries(text) {
+        book.file(entry)?;
     }
-    Ok(stocked)
+    Ok(book)
 }
 
 // A new lowest book.
@@ -68,7 +63,7 @@ fn sheets_of(layers: Layers) -> Result<(Sheet, Sheet), Denial>
 
 // The gate that an opening asks for, or what a sheet or the book denied.
 pub(crate) fn open_gate(opening: Opening) -> Result<Gate<Pile>, Denial>
-    ensures answer { MatchResult result (λ g. opened opening.entry.gate (sheets opening.entry.layers) (floor_of opening.entry.ground) (held_in (words opening.entry.entries.now)) ≡ Ok (pile_state g)) (λ d. opened opening.entry.gate (sheets opening.entry.layers) (floor_of opening.entry.ground) (held_in (words opening.entry.entries.now)) ≡ Err d) }
+    ensures answer { MatchResult result (λ g. opened_by opening.entry ≡ Ok (pile_state g)) (λ d. opened_by opening.entry ≡ Err d) }
 {
     let (upper, lower) = sheets_of(opening.layers)?;
     let book = stock(lowest(opening.ground), opening.entries)?;

@@ -1,5 +1,6 @@
-// Answers in words.
-use crate::answer::{Answer, Fault};
+// Answers and refusals in words.
+use crate::answer::Answer;
+use crate::refusal::{Fault, Refusal};
 use book::entry::Entry;
 use std::fmt;
 
@@ -18,10 +19,11 @@ impl fmt::Display for Fault {
 
 fn list<W: fmt::Write>(entries: &[Entry], f: &mut fmt::Formatter<W>) -> fmt::Result {
     f.write_str("live")?;
-    for entry in entries {
-        let serial = entry.serial;
-        let standing = entry.standing;
-        let row = entry.row;
+    for &Entry {
+        serial,
+        standing,
+        row,
+    } in entries {
         write!(f, " {serial}:{standing}:{row}")?;
     }
     Ok(())
@@ -35,9 +37,16 @@ impl fmt::Display for Answer {
             Answer::Row(row) => write!(f, "row {row}"),
             Answer::Filed => f.write_str("filed"),
             Answer::Struck => f.write_str("struck"),
-            Answer::Denied(denial) => write!(f, "{denial}"),
-            Answer::Unreadable(fault) => write!(f, "unreadable ({fault})"),
             Answer::Live(entries) => list(entries, f),
+        }
+    }
+}
+
+impl fmt::Display for Refusal {
+    fn fmt<W: fmt::Write>(&self, f: &mut fmt::Formatter<W>) -> fmt::Result {
+        match self {
+            Refusal::Denied(denial) => write!(f, "{denial}"),
+            Refusal::Unreadable(fault) => write!(f, "unreadable ({fault})"),
         }
     }
 }

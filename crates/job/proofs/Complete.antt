@@ -1,6 +1,7 @@
 -- A line that says a command is read as that command. Assumes nothing.
 use Rattle.std.proofs.Common.{◌≡◌, ℕ, ◌≤◌, true, false, cond, eqb, List, [], ◌∷◌, ◌++◌, length, Some, None, Ok, Err, codes, Option, Result, refl, ap, ◌∙◌, subst, ⊎_elim, append_assoc, arith}
-use Rattle.std.specs.List.{AllByRecursion}
+use Rattle.std.specs.List.{All}
+use Rattle.std.proofs.lemmas.List.Elements.{All-head, All-tail}
 use Rattle.std.specs.Str.{bytes_eq}
 use Rattle.std.proofs.lemmas.Slice.Eq.{bytes_eq-Decides}
 use Rattle.std.proofs.lemmas.Bool.{cases_Bool, cond-true, cond-false, ne_eqb}
@@ -10,7 +11,7 @@ use Rattle.job.specs.Books.{Floor, ledger, Held, held, listing, listed, passing,
 use Rattle.job.specs.Commands.{Said, opens, turns, principal, statement, files, strikes, command, told, told_three, told_held, opening, answered, spoken}
 use Rattle.job.specs.Grammar.{Serials, no_serial, serial, Sheets, bare, over, Base, a_ledger, a_card, Entry, parts, Entries, no_entry, one_entry, Ending, nothing, with_entries, Line, open_line, at_line, principal_line, statement_line, file_line, strike_line, book_line}
 use Rattle.job.specs.Limits.{gate_limit, small_limit, standing_limit}
-use Rattle.job.specs.Numbers.{number, Number}
+use Rattle.job.specs.Numbers.{number, IsDigit, Number}
 use Rattle.job.specs.Operands.{Part, part, triple, on, counted, leading_number, closed, one, three}
 use Rattle.job.specs.Words.{front, behind}
 use Rattle.job.proofs.Values.{number_from}
@@ -36,9 +37,8 @@ not_over : {limit n : ℕ} {w : List ℕ} → Number limit w n → bytes_eq w (c
 not_over {limit} {n} {w} h =
     ⊎_elim
     (λ e.
-    let D : List ℕ → Type 0 = λ v. AllByRecursion (λ c. (48 ≤ c) × (c ≤ 57)) v in
-    let d = subst D ((bytes_eq-Decides w (codes "over")).0 e) h.decimal in
-    absurd (omega (arith, d.0.1)))
+    let d = subst (All IsDigit) ((bytes_eq-Decides w (codes "over")).0 e) h.decimal in
+    absurd (let first = All-head IsDigit 111 (codes "ver") d in omega (arith, first.1)))
     (λ e. e)
     (cases_Bool (bytes_eq w (codes "over")))
 
@@ -90,13 +90,13 @@ base_bare a_card after = refl
 -- entries
 
 -- digits hold no colon
-front_digits : (s x : List ℕ) → AllByRecursion (λ c. (48 ≤ c) × (c ≤ 57)) s → front 58 (s ++ 58 ∷ x) ≡ s
+front_digits : (s x : List ℕ) → All IsDigit s → front 58 (s ++ 58 ∷ x) ≡ s
 front_digits [] x d = refl
-front_digits (c ∷ s) x d = cond-false _ _ _ (ne_eqb c 58 (λ e. omega (arith, d.0.1))) ∙ ap (λ l. c ∷ l) (front_digits s x d.1)
+front_digits (c ∷ s) x d = cond-false _ _ _ (ne_eqb c 58 (λ e. let first = All-head IsDigit c s d in omega (arith, first.1))) ∙ ap (λ l. c ∷ l) (front_digits s x (All-tail IsDigit c s d))
 
-behind_digits : (s x : List ℕ) → AllByRecursion (λ c. (48 ≤ c) × (c ≤ 57)) s → behind 58 (s ++ 58 ∷ x) ≡ x
+behind_digits : (s x : List ℕ) → All IsDigit s → behind 58 (s ++ 58 ∷ x) ≡ x
 behind_digits [] x d = refl
-behind_digits (c ∷ s) x d = cond-false _ _ _ (ne_eqb c 58 (λ e. omega (arith, d.0.1))) ∙ behind_digits s x d.1
+behind_digits (c ∷ s) x d = cond-false _ _ _ (ne_eqb c 58 (λ e. let first = All-head IsDigit c s d in omega (arith, first.1))) ∙ behind_digits s x (All-tail IsDigit c s d)
 
 -- an entry from its three parts
 abbrev from_parts : List ℕ → List ℕ → List ℕ → Option Held

@@ -1,8 +1,9 @@
 -- Splitting a list at a byte, step by step. Assumes nothing.
 use Rattle.std.proofs.Common.{◌≡◌, ℕ, suc, ◌+◌, ◌<◌, true, false, cond, eqb, not, ◌⊎◌, List, [], ◌∷◌, ◌++◌, length, take, drop, sym, refl, ap, ◌∙◌, subst, inl, inr, arith}
-use Rattle.std.specs.List.{flat_map, AllByRecursion, prefix_len, position_or_len, before_first, after_first}
+use Rattle.std.specs.List.{flat_map, All, prefix_len, position_or_len, before_first, after_first}
 use Rattle.std.proofs.Math.Numerals.{one-add}
 use Rattle.std.proofs.lemmas.List.{nil_from_length}
+use Rattle.std.proofs.lemmas.List.Elements.{All-nil, All-cons, All-head, All-tail}
 use Rattle.std.proofs.lemmas.Bool.{eqb-true, eqb-false, cond-true, cond-false, cond_both}
 use Rattle.job.specs.Words.{front, behind, onto, split, keep, filled, trimmed, word, rest, words, without, Lacks, Proper}
 use Rattle.job.specs.Lines.{lines, ended, Whole}
@@ -92,26 +93,26 @@ joined_filled (p ∷ ps) = joined_keep p (filled ps) ∙ ap (λ l. p ++ l) (join
 pub words_whole : (l : List ℕ) → flat_map (λ w. w) (words l) ≡ without 32 l
 words_whole l = joined_filled (split 32 l) ∙ joined_split 32 l
 
-lacks_onto : (b x : ℕ) (ps : List (List ℕ)) → (x ≡ b → ⊥) → AllByRecursion (Lacks b) ps → AllByRecursion (Lacks b) (onto x ps)
-lacks_onto b x [] n h = ((n, tt), tt)
-lacks_onto b x (p ∷ ps) n h = ((n, h.0), h.1)
+lacks_onto : (b x : ℕ) (ps : List (List ℕ)) → (x ≡ b → ⊥) → All (Lacks b) ps → All (Lacks b) (onto x ps)
+lacks_onto b x [] n h = All-cons (Lacks b) (x ∷ []) [] (All-cons (λ y. y ≡ b → ⊥) x [] n (All-nil (λ y. y ≡ b → ⊥))) (All-nil (Lacks b))
+lacks_onto b x (p ∷ ps) n h = All-cons (Lacks b) (x ∷ p) ps (All-cons (λ y. y ≡ b → ⊥) x p n (All-head (Lacks b) p ps h)) (All-tail (Lacks b) p ps h)
 
-pub split_lacks : (b : ℕ) (l : List ℕ) → AllByRecursion (Lacks b) (split b l)
-split_lacks b [] = tt
+pub split_lacks : (b : ℕ) (l : List ℕ) → All (Lacks b) (split b l)
+split_lacks b [] = All-nil (Lacks b)
 split_lacks b (x ∷ xs) =
-    cond_both (eqb x b) ([] ∷ split b xs) (onto x (split b xs)) (AllByRecursion (Lacks b))
-    (λ e. (tt, split_lacks b xs))
+    cond_both (eqb x b) ([] ∷ split b xs) (onto x (split b xs)) (All (Lacks b))
+    (λ e. All-cons (Lacks b) [] (split b xs) (All-nil (λ y. y ≡ b → ⊥)) (split_lacks b xs))
     (λ e. lacks_onto b x (split b xs) (eqb-false x b e) (split_lacks b xs))
 
-proper_keep : (w : List ℕ) (ws : List (List ℕ)) → Lacks 32 w → AllByRecursion Proper ws → AllByRecursion Proper (keep w ws)
+proper_keep : (w : List ℕ) (ws : List (List ℕ)) → Lacks 32 w → All Proper ws → All Proper (keep w ws)
 proper_keep [] ws h k = k
-proper_keep (x ∷ xs) ws h k = ((omega arith, h), k)
+proper_keep (x ∷ xs) ws h k = All-cons Proper (x ∷ xs) ws (omega arith, h) k
 
-proper_filled : (ps : List (List ℕ)) → AllByRecursion (Lacks 32) ps → AllByRecursion Proper (filled ps)
-proper_filled [] h = tt
-proper_filled (p ∷ ps) h = proper_keep p (filled ps) h.0 (proper_filled ps h.1)
+proper_filled : (ps : List (List ℕ)) → All (Lacks 32) ps → All Proper (filled ps)
+proper_filled [] h = All-nil Proper
+proper_filled (p ∷ ps) h = proper_keep p (filled ps) (All-head (Lacks 32) p ps h) (proper_filled ps (All-tail (Lacks 32) p ps h))
 
-pub words_proper : (l : List ℕ) → AllByRecursion Proper (words l)
+pub words_proper : (l : List ℕ) → All Proper (words l)
 words_proper l = proper_filled (split 32 l) (split_lacks 32 l)
 
 -- one more byte in front of a line leaves its end as it is

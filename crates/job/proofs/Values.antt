@@ -1,9 +1,10 @@
 -- Reading a number digit by digit. Assumes nothing.
 use Rattle.std.proofs.Common.{◌≡◌, ℕ, ◌+◌, ◌-◌, ◌*◌, ◌<◌, ◌≤◌, true, false, cond, ◌&&◌, leb, List, [], ◌∷◌, length, get_or, drop, Some, None, Option, sym, refl, ap, ◌∙◌, arith}
-use Rattle.std.specs.List.{AllByRecursion}
+use Rattle.std.specs.List.{All}
+use Rattle.std.proofs.lemmas.List.Elements.{All-nil, All-cons, All-head, All-tail}
 use Rattle.std.proofs.lemmas.List.{at_drop_more, at_drop_all}
 use Rattle.std.proofs.lemmas.Bool.{cond_both, cond-true, cond-false, leb-true, leb-false, lt-leb, le-leb, and_parts, and_from}
-use Rattle.job.specs.Numbers.{digit, digits, value_after, value, written, number, Number}
+use Rattle.job.specs.Numbers.{digit, digits, value_after, value, written, number, IsDigit, Number}
 
 -- reads on after digits of value n, and ends as soon as the value passes the limit
 abbrev pub spell : ℕ → ℕ → List ℕ → Option ℕ
@@ -42,16 +43,18 @@ pub number_empty : (limit : ℕ) (w : List ℕ) → length w ≡ 0 → None ≡ 
 number_empty limit [] h = refl
 number_empty limit (c ∷ cs) h = absurd (omega arith)
 
-all_digits : (w : List ℕ) → digits w ≡ true → AllByRecursion (λ c. (48 ≤ c) × (c ≤ 57)) w
-all_digits [] h = tt
+all_digits : (w : List ℕ) → digits w ≡ true → All IsDigit w
+all_digits [] h = All-nil IsDigit
 all_digits (c ∷ cs) h =
     let p = and_parts (digit c) (digits cs) h in
     let q = and_parts (leb 48 c) (leb c 57) p.0 in
-    ((leb-true _ _ q.0, leb-true _ _ q.1), all_digits cs p.1)
+    All-cons IsDigit c cs (leb-true _ _ q.0, leb-true _ _ q.1) (all_digits cs p.1)
 
-digits_all : (w : List ℕ) → AllByRecursion (λ c. (48 ≤ c) × (c ≤ 57)) w → digits w ≡ true
+digits_all : (w : List ℕ) → All IsDigit w → digits w ≡ true
 digits_all [] h = refl
-digits_all (c ∷ cs) h = and_from (digit c) (digits cs) (and_from _ _ (le-leb _ _ h.0.0) (le-leb _ _ h.0.1)) (digits_all cs h.1)
+digits_all (c ∷ cs) h =
+    let first = All-head IsDigit c cs h in
+    and_from (digit c) (digits cs) (and_from _ _ (le-leb _ _ first.0) (le-leb _ _ first.1)) (digits_all cs (All-tail IsDigit c cs h))
 
 written_digits : (w : List ℕ) → written w ≡ true → (0 < length w) × (digits w ≡ true)
 written_digits [] h = absurd cc

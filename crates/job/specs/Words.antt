@@ -11,7 +11,7 @@
 -- without b l    l without each b
 -- Proper w       w is not empty and holds no space
 use Rattle.std.specs.Prelude.{ℕ, ◌<◌, cond, List, [], ◌∷◌, length, ◌==◌, ◌≢◌}
-use Rattle.std.specs.List.{AllByRecursion}
+use Rattle.std.specs.List.{All}
 
 abbrev pub front : ℕ → List ℕ → List ℕ
 front b [] = []
@@ -57,7 +57,7 @@ without b (x ∷ xs) = cond (x == b) (without b xs) (x ∷ without b xs)
 
 -- l holds no b
 abbrev pub Lacks : ℕ → List ℕ → Type 0
-Lacks b l = AllByRecursion (λ x. x ≢ b) l
+Lacks b l = All (λ x. x ≢ b) l
 
 abbrev pub Proper : List ℕ → Type 0
 Proper w = (0 < length w) × Lacks 32 w

@@ -14,7 +14,7 @@ mod unreadable;
 mod words;
 
 pub use command::{Command, Deed, Ground, Layers, Naming, Opening};
-pub use lines::next_line;
-pub use lists::{next_entry, next_serial};
+pub use lines::{Lines, next_line};
+pub use lists::{Entries, Serials, next_entry, next_serial};
 pub use reading::read_line;
 pub use unreadable::Unreadable;

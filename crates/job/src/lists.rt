@@ -40,3 +40,47 @@ pub fn next_entry(text: &[u8]) -> Option<(Entry, &[u8])>
     let (first, after) = next_word(text)?;
     Some((read_entry(first)?, after))
 }
+
+// The serials that the text begins with, in order.
+#[derive(Clone, Copy)]
+pub struct Serials<'a>(pub &'a [u8]);
+
+impl<'a> Iterator for Serials<'a> {
+    ghost use Rattle.std.specs.Iterator.{YieldsFirst, item_count};
+    ghost use Rattle.job.specs.Books.{listed};
+    ghost use Rattle.job.specs.Words.{words};
+
+    type Item = u16;
+
+    ghost next_gives = { YieldsFirst (λ s. listed (words s.0.now)) };
+
+    ghost remaining = { item_count (λ s. listed (words s.0.now)) };
+
+    fn next(&mut self) -> Option<u16> {
+        let (serial, after) = next_serial(self.0)?;
+        self.0 = after;
+        Some(serial)
+    }
+}
+
+// The entries that the text begins with, in order. One iterator for these and the serials would need a trait for what a word is read as.
+#[derive(Clone, Copy)]
+pub struct Entries<'a>(pub &'a [u8]);
+
+impl<'a> Iterator for Entries<'a> {
+    ghost use Rattle.std.specs.Iterator.{YieldsFirstBy, item_count};
+    ghost use Rattle.job.specs.Books.{held_in, held_as};
+    ghost use Rattle.job.specs.Words.{words};
+
+    type Item = Entry;
+
+    ghost next_gives = { YieldsFirstBy held_as (λ s. held_in (words s.0.now)) };
+
+    ghost remaining = { item_count (λ s. held_in (words s.0.now)) };
+
+    fn next(&mut self) -> Option<Entry> {
+        let (entry, after) = next_entry(self.0)?;
+        self.0 = after;
+        Some(entry)
+    }
+}

@@ -1,7 +1,8 @@
 // Why a line cannot be read.
+use std::error::Error;
 use std::fmt;
 
-#[derive(Clone, Copy)]
+#[derive(Clone, Copy, Debug)]
 pub enum Unreadable {
     UnknownCommand,
     MissingWord,
@@ -10,6 +11,8 @@ pub enum Unreadable {
     BadBook,
     BadEntry,
 }
+
+impl Error for Unreadable {}
 
 impl fmt::Display for Unreadable {
     fn fmt<W: fmt::Write>(&self, f: &mut fmt::Formatter<W>) -> fmt::Result {

@@ -1,6 +1,6 @@
 // Cuts a text at a byte, and a line into its words.
 ghost use Rattle.std.specs.Prelude.{◌≡◌, [], ◌∷◌, MatchOption};
-ghost use Rattle.std.specs.List.{flat_map, AllByRecursion};
+ghost use Rattle.std.specs.List.{flat_map, All};
 ghost use Rattle.job.specs.Words.{front, behind, trimmed, word, rest, words, without, Proper};
 
 // What stands before the first `mark`, and what stands behind it.
@@ -30,7 +30,7 @@ pub(crate) fn next_word(line: &[u8]) -> Option<(&[u8], &[u8])>
     ensures first { MatchOption result (words line.now ≡ []) (λ p. words line.now ≡ p.0.now ∷ words p.1.now) }
     ensures parts { MatchOption result (word line.now ≡ []) (λ p. (p.0.now ≡ word line.now) × (p.1.now ≡ rest line.now)) }
     ensures whole { flat_map (λ w. w) (words line.now) ≡ without 32 line.now }
-    ensures proper { AllByRecursion Proper (words line.now) }
+    ensures proper { All Proper (words line.now) }
 {
     let (first, after) = cut(trim(line), b' ');
     if first.is_empty() {

@@ -106,16 +106,42 @@ const STATEMENTS: [Row; 10] = [
     },
 ];
 
+// The paint house's rule: what shop and lab say together about the recipe holds.
+const RULE: Entry = Entry {
+    serial: 1,
+    standing: Standing::Rule,
+    row: 4,
+};
+
+const SHOP_SAYS: Entry = Entry {
+    serial: 2,
+    standing: Standing::Saying,
+    row: 5,
+};
+
+const LAB_SAYS: Entry = Entry {
+    serial: 3,
+    standing: Standing::Saying,
+    row: 6,
+};
+
+// What the shop says that the lab says.
+const LAB_QUOTED: Entry = Entry {
+    serial: 4,
+    standing: Standing::Saying,
+    row: 7,
+};
+
 // The row's number behind its words, or why it has none.
-fn tell_row(rt: &HostRuntime, words: &str, answer: Result<u16, Denial>) -> io::Result<()> {
+fn tell_row(rt: &impl Print, words: &str, answer: Result<u16, Denial>) -> io::Result<()> {
     match answer {
         Ok(row) => println!(rt; "  {row}: {words}."),
         Err(denial) => println!(rt; "  {words}: {denial}."),
     }
 }
 
-// What was done, or why it was not.
-fn tell_done(rt: &HostRuntime, done: &str, answer: Result<(), Denial>) -> io::Result<()> {
+// What was done, or why it was not. No one function with `tell_row` would be plainer: there the words stand on both sides of the answer.
+fn tell_done(rt: &impl Print, done: &str, answer: Result<(), Denial>) -> io::Result<()> {
     match answer {
         Ok(()) => println!(rt; "{done}."),
         Err(denial) => println!(rt; "{denial}."),
@@ -123,7 +149,7 @@ fn tell_done(rt: &HostRuntime, done: &str, answer: Result<(), Denial>) -> io::Re
 }
 
 // Names all rows of the morning.
-fn name_rows<B: Book>(rt: &HostRuntime, gate: &mut Gate<B>) -> anyhow::Result<()> {
+fn name_rows<B: Book>(rt: &impl Print, gate: &mut Gate<B>) -> anyhow::Result<()> {
     println!(rt; "It names who takes part, the principals:")?;
     for row in &PRINCIPALS {
         tell_row(rt, row.words, gate.principal(row.form, row.x, row.y))?;
@@ -136,35 +162,34 @@ fn name_rows<B: Book>(rt: &HostRuntime, gate: &mut Gate<B>) -> anyhow::Result<()
 }
 
 // Files an entry and tells what came of it.
-fn file<B: Book>(
-    rt: &HostRuntime,
-    gate: &mut Gate<B>,
-    serial: u16,
-    standing: u8,
-    row: u16,
-) -> io::Result<()> {
+fn file<B: Book>(rt: &impl Print, gate: &mut Gate<B>, entry: Entry) -> io::Result<()> {
+    let Entry {
+        serial,
+        standing,
+        row,
+    } = entry;
     print!(rt; "  statement {row} under serial {serial}: ")?;
-    tell_done(rt, "filed", gate.file(serial, standing, row))
+    tell_done(rt, "filed", gate.file(serial, standing as u8, row))
 }
 
 // Strikes a serial and tells what came of it.
-fn strike<B: Book>(rt: &HostRuntime, gate: &mut Gate<B>, serial: u16) -> io::Result<()> {
+fn strike<B: Book>(rt: &impl Print, gate: &mut Gate<B>, serial: u16) -> io::Result<()> {
     print!(rt; "  serial {serial}: ")?;
     tell_done(rt, "struck", gate.strike(serial))
 }
 
 // An entry of the book in words.
-fn tell_entry(rt: &HostRuntime, entry: Entry) -> io::Result<()> {
-    let serial = entry.serial;
-    let row = entry.row;
-    match entry.standing {
-        Standing::Rule => println!(rt; "  serial {serial}: statement {row}, a rule."),
-        Standing::Saying => println!(rt; "  serial {serial}: statement {row}, a saying."),
-    }
+fn tell_entry(rt: &impl Print, entry: Entry) -> io::Result<()> {
+    let Entry {
+        serial,
+        standing,
+        row,
+    } = entry;
+    println!(rt; "  serial {serial}: statement {row}, a {standing}.")
 }
 
 // Tells what is live, from entry to entry in rising serial order.
-fn show_book<B: Book>(rt: &HostRuntime, gate: &Gate<B>) -> anyhow::Result<()> {
+fn show_book<B: Book>(rt: &impl Print, gate: &Gate<B>) -> anyhow::Result<()> {
     println!(rt; "The book now holds:")?;
     for entry in gate.entries() {
         tell_entry(rt, entry)?;
@@ -173,22 +198,22 @@ fn show_book<B: Book>(rt: &HostRuntime, gate: &Gate<B>) -> anyhow::Result<()> {
 }
 
 // The rule and the two sayings are filed, a fourth finds no place, and one is struck to make room.
-fn keep_the_book<B: Book>(rt: &HostRuntime, gate: &mut Gate<B>) -> anyhow::Result<()> {
+fn keep_the_book<B: Book>(rt: &impl Print, gate: &mut Gate<B>) -> anyhow::Result<()> {
     println!(rt; "The paint house files its rule, and shop and lab file what they say.")?;
-    file(rt, gate, 1, 1, 4)?;
-    file(rt, gate, 2, 2, 5)?;
-    file(rt, gate, 3, 2, 6)?;
+    file(rt, gate, RULE)?;
+    file(rt, gate, SHOP_SAYS)?;
+    file(rt, gate, LAB_SAYS)?;
     println!(rt; "The ledger's three records are used. A fourth entry finds no place.")?;
-    file(rt, gate, 4, 2, 7)?;
+    file(rt, gate, LAB_QUOTED)?;
     show_book(rt, gate)?;
     println!(rt; "The lab takes its saying back, which makes room.")?;
-    strike(rt, gate, 3)?;
-    file(rt, gate, 4, 2, 7)?;
+    strike(rt, gate, LAB_SAYS.serial)?;
+    file(rt, gate, LAB_QUOTED)?;
     show_book(rt, gate)
 }
 
 // Tells the whole task, from an empty ledger of three records on.
-pub fn tell(rt: &HostRuntime) -> anyhow::Result<()> {
+pub fn tell(rt: &impl Print) -> anyhow::Result<()> {
     println!(rt; "The morning of one recipe that needs shop and lab together.")?;
     let mut records = [BLANK; 3];
     let mut gate = Gate::new(7, Ledger::new(&mut records));

@@ -4,8 +4,9 @@
 mod jobs;
 
 use std::env;
+use std::rt::{Env, Files};
 
-fn run(rt: &HostRuntime) -> anyhow::Result<()> {
+fn run(rt: &(impl Env + Files + Input + Print + AllocGlobal)) -> anyhow::Result<()> {
     let mut args = env::args(rt)?;
     let _ = args.next();
     match args.next() {
