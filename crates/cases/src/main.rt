@@ -24,11 +24,7 @@ fn plain(answer: &str) -> &str {
 }
 
 // The bytes of a file of this case.
-fn read(
-    rt: &(impl Files + AllocGlobal),
-    name: &str,
-    ending: &str,
-) -> anyhow::Result<Vec<u8>> {
+fn read(rt: &(impl Files + AllocGlobal), name: &str, ending: &str) -> anyhow::Result<Vec<u8>> {
     let path = format!(in rt.alloc(); "{name}.{ending}")?;
     Ok(fs::read(rt, path.as_str())?)
 }

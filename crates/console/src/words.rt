@@ -23,8 +23,7 @@ fn list<W: fmt::Write>(entries: &[Entry], f: &mut fmt::Formatter<W>) -> fmt::Res
         serial,
         standing,
         row,
-    } in entries
-    {
+    } in entries {
         write!(f, " {serial}:{standing}:{row}")?;
     }
     Ok(())

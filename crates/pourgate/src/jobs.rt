@@ -16,12 +16,7 @@ fn read(rt: &(impl Files + Input + AllocGlobal), name: &str) -> anyhow::Result<V
 }
 
 // Does one line and prints its answer, or why it was not done; a silent line prints nothing.
-fn answer(
-    rt: &impl Print,
-    console: &mut Console,
-    number: u64,
-    line: &[u8],
-) -> anyhow::Result<()> {
+fn answer(rt: &impl Print, console: &mut Console, number: u64, line: &[u8]) -> anyhow::Result<()> {
     match console.line(line) {
         Some(Ok(answer)) => println!(rt; "{number}: {answer}")?,
         Some(Err(refusal)) => println!(rt; "{number}: {refusal}")?,
