@@ -63,6 +63,7 @@ impl<'a, R: Register> Given<'a, R> {
     }
 
     // What a line of this shape does on the branch; denied with 22, 23 or 24 at the line's number.
+    // Each operand is fetched by a `let` of its own, so that the order of the denials is that of these lines.
     pub fn move_of(
         &self,
         branch: &mut OpenBranch,

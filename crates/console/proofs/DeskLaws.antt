@@ -1,19 +1,18 @@
 -- The console's gates as a list: places, and what each looks like on the desk.
-use Rattle.std.proofs.Common.{◌≡◌, ℕ, zero, suc, ◌+◌, ◌<◌, ◌≤◌, Bool, true, false, cond, eqb, leb, List, [], ◌∷◌, map, set, length, get_or, Option, is_some, Some, Ok, Err, Result, sym, refl, ap, ◌∙◌, subst, arith, le-leb}
+use Rattle.std.proofs.Common.{◌≡◌, ℕ, ◌+◌, ◌<◌, ◌≤◌, Bool, true, false, cond, eqb, List, [], ◌∷◌, map, set, length, get_or, is_some, Some, Ok, Err, Result, sym, refl, ap, ◌∙◌, le-leb}
 use Rattle.std.specs.List.{position, prefix_len, slice_get}
 use Rattle.std.specs.Prelude.{not}
 use Rattle.std.proofs.lemmas.List.{length-map, map-set}
 use Rattle.gate.specs.declared.gate.Gate.{Gate}
-use Rattle.std.specs.Option.{option_map}
 use Rattle.std.proofs.lemmas.Option.{slice_get-get_or, slice_get-map}
-use borrow.Author.Tests.{lt-leb}
+use Rattle.std.proofs.lemmas.Bool.{lt-leb}
 use Rattle.denials.specs.declared.denial.Denial.{Denial}
 use Rattle.gate.specs.State.{State}
 use Rattle.console.specs.declared.refusal.Fault.TheVariants.{OpenAlready, NinthGate}
 use Rattle.console.specs.Replies.{Reply, unreadable, refused}
 use Rattle.console.specs.Deeds.{Replies, deed_left}
 use Rattle.job.specs.declared.command.Deed.{Deed}
-use Rattle.console.specs.Desks.{Desk, desk, place_at, place_of, AtState, AtGate, Admits, Only, Makes, Opens}
+use Rattle.console.specs.Desks.{Desk, desk, place_at, place_of, AtGate, Admits, Only, Opens}
 use Rattle.console.specs.Piles.{Pile, pile_state}
 
 prefix_len_map : {X Y : Type 0} (f : X → Y) (is : Y → Bool) (xs : List X) → prefix_len is (map f xs) ≡ prefix_len (λ x. is (f x)) xs
@@ -34,9 +33,7 @@ place_on_desk n gs = position_map pile_state (λ g. eqb g.number n) gs
 pub at_state : (gs : List (Gate Pile)) (n : ℕ) (gate after : Gate Pile) (deed : Deed) (r : Reply) → n < length gs → gate ≡ get_or gs n gate → Replies deed (pile_state gate) r → pile_state after ≡ deed_left deed (pile_state gate) → AtGate (desk (map pile_state gs) n) deed r (desk (map pile_state (set gs n after)) n)
 at_state gs n gate after deed r within read replies left =
     let here : slice_get gs n ≡ Some gate = slice_get-get_or gs n gate within ∙ ap Some (sym read) in
-    let found = slice_get-map pile_state gs n ∙ ap (option_map pile_state) here in
-    subst (λ (o : Option State). AtState (desk (map pile_state gs) n) deed o r (desk (map pile_state (set gs n after)) n)) (sym found)
-    (replies, ap (λ ss. desk ss n) (map-set pile_state gs n after ∙ ap (set (map pile_state gs) n) left))
+    rw (slice_get-map pile_state gs n, here, map-set pile_state gs n after, left) (replies, refl)
 
 -- the ways through an opening
 module _ (gs : List (Gate Pile)) (k n : ℕ) (made : Result State Denial) (r : Reply) (e : Desk) where

@@ -12,6 +12,7 @@ use rules::rule::Rule;
 use terms::row::{PrincipalRow, StatementRow};
 
 // What a line does that cites a fact first, whose statement row has this form.
+// One match, and long for that: what fits stands in one place, and the case that remains is denied there.
 fn from_fact(
     rule: Rule,
     fact: Fact,

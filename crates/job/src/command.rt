@@ -8,7 +8,7 @@ pub enum Command<'a> {
     Deed(Deed),
 }
 
-// What a line asks of the current gate.
+// What a line asks of the current gate. Forms and standings stay numbers: a line may give any, and the gate denies what is none.
 #[derive(Clone, Copy)]
 pub enum Deed {
     Principal(Naming),

@@ -1,4 +1,4 @@
-// The words that begin a command.
+// The words that begin a command: spelled here, and matched where the rest of the line is read.
 ghost use Rattle.std.specs.Prelude.{◌≡◌};
 ghost use Rattle.job.specs.Keywords.{keyword};
 

@@ -63,7 +63,7 @@ impl<'a> Iterator for Serials<'a> {
     }
 }
 
-// The entries that the text begins with, in order. One iterator for these and the serials would need a trait for what a word is read as.
+// The entries that the text begins with, in order. Two iterators, each with what is left in its contract: `map_while` over the words would leave that to whoever goes through them.
 #[derive(Clone, Copy)]
 pub struct Entries<'a>(pub &'a [u8]);
 

@@ -8,7 +8,7 @@ use gate::gate::Gate;
 use records::ledger::Ledger;
 use std::io;
 
-// A row to name, and what it says.
+// A row to name, by the numbers that the gate takes, and what it says.
 struct Row {
     form: u8,
     x: u16,

@@ -7,9 +7,7 @@ use std::env;
 use std::rt::{Env, Files};
 
 fn run(rt: &(impl Env + Files + Input + Print + AllocGlobal)) -> anyhow::Result<()> {
-    let mut args = env::args(rt)?;
-    let _ = args.next();
-    match args.next() {
+    match env::args(rt)?.nth(1) {
         None => morning::tell(rt),
         Some(name) => jobs::run(rt, name.as_str()),
     }

@@ -11,7 +11,7 @@ use denials::denial::{Denial, Reason};
 // The highest serial of a card book.
 pub const LAST_CARD: u16 = 256;
 
-// A fixed table, and no map: the gate has no heap.
+// A fixed table of entry records, blank where no entry is, and no map: the gate has no heap, and a record is the same in every book.
 #[derive(Clone, Copy)]
 pub struct CardBook {
     cards: [Entry; 256],

@@ -12,7 +12,7 @@ pub(crate) fn find(records: &[Entry], serial: u16) -> Result<usize, usize>
     records.binary_search_by_key(&serial, |record| record.serial)
 }
 
-// Puts an entry in at a place; the records from there on move up by one.
+// Puts an entry in at a place; the records from there on move up by one. Count and place are numbers, as the library's `copy_within` takes them.
 pub(crate) fn shift_in(records: &mut [Entry], count: usize, at: usize, entry: Entry)
     requires place { at ≤ count }
     requires room { count < length records.old }

@@ -13,10 +13,7 @@ pub(crate) fn look_up(in_use: &[Entry], serial: u16) -> Option<Entry>
     requires { InUse in_use.now }
     ensures { result ≡ held in_use.now (length in_use.now) serial }
 {
-    match find(in_use, serial) {
-        Ok(at) => Some(in_use[at]),
-        Err(_) => None,
-    }
+    find(in_use, serial).ok().map(|at| in_use[at])
 }
 
 // The entry with the lowest serial above the given one.

@@ -33,6 +33,7 @@ pub struct NextWorlds {
     pub second: u16,
 }
 
+// A case for facts and one for links, where a `Side` could say both: each says in one word what a rule does.
 // What a line does: it adds facts and links, some of them at new worlds, or forks the branch, the first alternative going on and the second kept, or closes the branch.
 #[derive(Clone, Copy)]
 pub enum Move {

@@ -147,7 +147,7 @@ pub fn shape_of(line: Line) -> Option<Shape>
 }
 
 // No place at all.
-const NONE: Places = Places {
+const NO_PLACES: Places = Places {
     facts: 0,
     links: 0,
     worlds: 0,
@@ -162,39 +162,48 @@ impl Rule {
     {
         match self {
             Rule::CiteRule | Rule::CiteSaying | Rule::Not | Rule::SaysTrue => {
-                Places { facts: 1, ..NONE }
+                Places {
+                    facts: 1,
+                    ..NO_PLACES
+                }
             }
-            Rule::AndTrue => Places { facts: 2, ..NONE },
+            Rule::AndTrue => Places {
+                facts: 2,
+                ..NO_PLACES
+            },
             Rule::AndFalse => Places {
                 facts: 1,
                 forks: 1,
-                ..NONE
+                ..NO_PLACES
             },
             Rule::SaysFalse => Places {
                 facts: 1,
                 links: 1,
                 worlds: 1,
-                ..NONE
+                ..NO_PLACES
             },
-            Rule::SpeaksForTrue | Rule::IntoBoth | Rule::IntoQuoting => Places { links: 1, ..NONE },
+            Rule::SpeaksForTrue | Rule::IntoBoth | Rule::IntoQuoting => Places {
+                links: 1,
+                ..NO_PLACES
+            },
             Rule::SpeaksForFalse => Places {
                 links: 2,
                 worlds: 2,
-                ..NONE
+                ..NO_PLACES
             },
             Rule::BothLinked => Places {
                 links: 1,
                 forks: 1,
-                ..NONE
+                ..NO_PLACES
             },
             Rule::QuotingLinked => Places {
                 links: 2,
                 worlds: 1,
-                ..NONE
+                ..NO_PLACES
             },
             Rule::FactsClash | Rule::LinksClash => Places {
                 closes: true,
-                ..NONE
+                ..NO_PLACES
             },
         }
     }

@@ -7,6 +7,7 @@ use rules::branch::{Fact, Fork, Link};
 use trail::trail::Trail;
 
 // The branch that is walked, the forks that are still to be taken the other way, and whether every branch is closed. Each fork has a place for the alternative that it keeps.
+// A flag beside the branch, and no enum: the tables of a complete proof are still there to be blanked.
 #[derive(Drop)]
 pub struct Tableau<'f, 'l, 'k> {
     pub branch: OpenBranch<'f, 'l>,

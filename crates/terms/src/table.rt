@@ -81,7 +81,7 @@ impl<R: Row, const LIMIT: usize> Table<R, LIMIT> {
     }
 
     // The number of a row whose parts are named: an old row's where it stands, a new one's behind the others.
-    // A new row is put in by value and the table written back whole.
+    // A new row is put in by value and the table written back whole, so that no table is seen between two writes.
     pub(crate) fn put(&mut self, row: R) -> Result<u16, Denial>
         requires { R.needs row ≤ length (rows_in self.old) }
         ensures answer { result ≡ put_answer LIMIT (rows_in self.old) (position (same R.form R.x R.y row) (rows_in self.old)) }

@@ -1,4 +1,4 @@
-// The calls of a trail.
+// The calls of a trail. Each of them, reading too, hands the whole slice on for writing.
 use crate::blank::Blank;
 use crate::places::{clear, counting, read, wipe, write};
 use crate::trail::Trail;
