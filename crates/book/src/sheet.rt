@@ -11,7 +11,7 @@ pub const SHEET_SIZE: usize = 64;
 #[derive(Clone, Copy)]
 pub struct Sheet {
     count: usize,
-    serials: [u16; 64],
+    serials: [u16; SHEET_SIZE],
     ghost sound: { SheetSound serials count },
 }
 
@@ -24,7 +24,7 @@ impl Sheet {
     {
         Sheet {
             count: 0,
-            serials: [0; 64],
+            serials: [0; SHEET_SIZE],
         }
     }
 

@@ -14,7 +14,7 @@ use crate::operands::first_number;
 use crate::unreadable::Unreadable;
 use crate::words::{Words, next_word};
 
-// What follows the serials of a layer and the word `over` behind them. What stands behind `over` is wanted, so no `for` over the words serves.
+// What follows the serials of a layer and the word `over` behind them. A loop by hand: by `find` over the words the proof was tried and did not close.
 fn past_over(text: &[u8]) -> Result<&[u8], Unreadable>
     ensures { MatchResult result (λ after. behind_over (words text.now) ≡ Ok (words after.now)) (λ e. behind_over (words text.now) ≡ Err e) }
 {

@@ -18,7 +18,7 @@ use denials::denial::Denial;
 pub struct OwnedLedger {
     size: usize,
     count: usize,
-    records: [Entry; 1024],
+    records: [Entry; LEDGER_SIZE],
     ghost sound: { OwnedSound records size count },
 }
 
@@ -30,7 +30,7 @@ impl OwnedLedger {
         OwnedLedger {
             size: size.min(LEDGER_SIZE),
             count: 0,
-            records: [BLANK; 1024],
+            records: [BLANK; LEDGER_SIZE],
         }
     }
 }

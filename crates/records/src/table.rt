@@ -8,12 +8,15 @@ use crate::records::{find, shift_in, shift_out};
 use book::entry::Entry;
 use denials::denial::{Denial, Reason};
 
-// The entry of a serial among the records in use.
+// The entry of a serial among the records in use. Each arm rests on what `find` says of its answer, which `ok` and `map` would hide from the proof.
 pub(crate) fn look_up(in_use: &[Entry], serial: u16) -> Option<Entry>
     requires { InUse in_use.now }
     ensures { result ≡ held in_use.now (length in_use.now) serial }
 {
-    find(in_use, serial).ok().map(|at| in_use[at])
+    match find(in_use, serial) {
+        Ok(at) => Some(in_use[at]),
+        Err(_) => None,
+    }
 }
 
 // The entry with the lowest serial above the given one.

@@ -26,7 +26,9 @@ impl Tableau<'_, '_, '_> {
         if self.complete {
             return Err(Reason::AlreadyComplete.at(number));
         }
-        let shape = shape_of(line).ok_or(Reason::UnknownCode.at(number))?;
+        let Some(shape) = shape_of(line) else {
+            return Err(Reason::UnknownCode.at(number));
+        };
         let movement = given.move_of(&mut self.branch, shape, line, number)?;
         if !self.has_room(shape.rule.takes()) {
             return Err(Reason::NoPlace.at(number));

@@ -33,8 +33,8 @@ pub(crate) fn walk_lines<R: Register>(
     ensures answer { result ≡ lines_walked (limits tableau.old) (given_by R.live given.now) 0 (progress tableau.old) (map line_of lines.now) }
     ensures same { SameTables tableau.old tableau.new }
 {
-    for (number, line) in (1u64..).zip(lines) {
-        tableau.step(given, line_of(*line), number)?;
+    for (i, line) in lines.iter().enumerate() {
+        tableau.step(given, line_of(*line), i as u64 + 1)?;
     }
     if tableau.complete {
         Ok(())
