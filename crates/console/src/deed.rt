@@ -1,6 +1,6 @@
 // Doing what a line asks of the current gate.
 ghost use Rattle.std.specs.Prelude.{◌≡◌};
-ghost use Rattle.gate.specs.State.{state_of};
+ghost use Rattle.gate.specs.State.{state};
 ghost use Rattle.console.specs.Deeds.{reply, Replies, deed_left};
 
 use crate::answer::Answer;
@@ -14,8 +14,8 @@ use std::alloc::Global;
 
 // Does the deed at the gate and answers what came of it.
 pub(crate) fn act<B: Book>(heap: Global, gate: &mut Gate<B>, deed: Deed) -> Result<Answer, Refusal>
-    ensures answer { Replies deed (state_of B.live B.barred B.free gate.old) (reply result) }
-    ensures after { state_of B.live B.barred B.free gate.new ≡ deed_left deed (state_of B.live B.barred B.free gate.old) }
+    ensures answer { Replies deed (state B.Book gate.old) (reply result) }
+    ensures after { state B.Book gate.new ≡ deed_left deed (state B.Book gate.old) }
 {
     match deed {
         Deed::Principal(n) => Ok(Answer::Row(gate.principal(n.form, n.x, n.y)?)),

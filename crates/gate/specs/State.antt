@@ -2,6 +2,7 @@
 --
 -- State                                  a gate by its number, its rows and what its book means
 -- state_of live barred free g            the state of the gate g over a book with this meaning
+-- state book g                           the same by the ghost members of the book's trait, as a clause has them under one name
 -- new_gate n book                        a gate with the number n, no rows and this book
 -- principal_call g f a b                 naming a principal: the answer
 -- principal_left g f a b                 the gate afterwards
@@ -35,6 +36,9 @@ state_of live barred free g =
       rows = rows_of g.names;
       book = means (live g.book) (barred g.book) (free g.book);
     }
+
+abbrev pub state : {X : Type 0} → record { live : X → ℕ → Option Entry; barred : X → ℕ → Bool; free : X → ℕ; behind : X → X → Type 0 } → Gate X → State
+state book g = state_of book.live book.barred book.free g
 
 abbrev pub new_gate : ℕ → Meaning → State
 new_gate n m = record { number = n; rows = record { principals = []; statements = [] }; book = m }

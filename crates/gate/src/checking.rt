@@ -5,7 +5,7 @@ ghost use Rattle.rules.specs.Branches.{blank_fact, blank_link, blank_fork};
 ghost use Rattle.soundness.specs.Walking.{stated};
 ghost use Rattle.tableau.specs.Passing.{Exactly, Grounded};
 ghost use Rattle.gate.specs.Checking.{given_at, checking};
-ghost use Rattle.gate.specs.State.{state_of};
+ghost use Rattle.gate.specs.State.{state};
 
 use crate::gate::Gate;
 use book::filing::Book;
@@ -23,9 +23,9 @@ impl<B: Book> Gate<B> {
         links: &mut [Link],
         forks: &mut [Fork],
     ) -> Result<u16, Denial>
-        ensures answer { result ≡ checking (state_of B.live B.barred B.free self.now) (length facts.old) (length links.old) (length forks.old) file.now }
-        ensures exactly { Exactly (stated (length facts.old) (length links.old) (length forks.old)) (given_at (state_of B.live B.barred B.free self.now)) file.now result }
-        ensures follows { Grounded (given_at (state_of B.live B.barred B.free self.now)) result }
+        ensures answer { result ≡ checking (state B.Book self.now) (length facts.old) (length links.old) (length forks.old) file.now }
+        ensures exactly { Exactly (stated (length facts.old) (length links.old) (length forks.old)) (given_at (state B.Book self.now)) file.now result }
+        ensures follows { Grounded (given_at (state B.Book self.now)) result }
         ensures blank_facts { AllBlank blank_fact facts.new }
         ensures blank_links { AllBlank blank_link links.new }
         ensures blank_forks { AllBlank blank_fork forks.new }
