@@ -8,6 +8,7 @@ use denials::denial::Denial;
 use records::card::CardBook;
 use records::owned::OwnedLedger;
 
+// An enum that hands each call on, and no boxed trait: the kinds are two, and a gate has no heap.
 #[derive(Clone, Copy)]
 pub enum Shelf {
     Ledger(OwnedLedger),

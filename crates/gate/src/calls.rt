@@ -68,7 +68,7 @@ impl<B: Book> Gate<B> {
         self.names.statement(form, x, y)
     }
 
-    // Tries the standing and the row, and then files in the book.
+    // Tries the standing and the row, and then files in the book. Apart from `file`, which says in words what these clauses compute.
     fn file_row(&mut self, serial: u16, standing: u8, row: u16) -> Result<(), Denial>
         ensures answer { result ≡ filing (state B.Book self.old) serial standing row }
         ensures after { state B.Book self.new ≡ filing_left (state B.Book self.old) serial standing row }

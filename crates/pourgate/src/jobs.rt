@@ -15,7 +15,7 @@ fn read(rt: &(impl Files + Input + AllocGlobal), name: &str) -> anyhow::Result<V
     Ok(fs::read(rt, name)?)
 }
 
-// Does one line and prints its answer, or why it was not done; a silent line prints nothing.
+// Does one line and prints its answer, or why it was not done; a silent line prints nothing. An answer and a refusal have words of their own, so each has its arm.
 fn answer(rt: &impl Print, console: &mut Console, number: u64, line: &[u8]) -> anyhow::Result<()> {
     match console.line(line) {
         Some(Ok(answer)) => println!(rt; "{number}: {answer}")?,

@@ -62,7 +62,7 @@ impl Names {
         self.principals.put(row)
     }
 
-    // Names a statement by its form and operands, and answers its number.
+    // Names a statement by its form and operands, and answers its number. A call for each kind: whoever names says which, and one over both would have to be told.
     pub fn statement(&mut self, form: u8, x: u16, y: u16) -> Result<u16, Denial>
         ensures answer { result ≡ statement_name (rows_of self.old) form x y }
         ensures after { rows_of self.new ≡ statement_named (rows_of self.old) form x y }

@@ -24,6 +24,7 @@ pub enum StatementRow {
 }
 
 // What the two kinds of rows share: each is told by its form and its operands, of which an unused one is 0.
+// These three stay calls, though naming needs `==` alone: what the ghost members say of a row is said of code too.
 pub trait Row: Copy + Eq {
     // How many rows of the same kind have to be named before this one: one more than its highest part.
     ghost needs: { Self → ℕ };

@@ -4,6 +4,7 @@ ghost use Rattle.trail.specs.Places.{Sound};
 use crate::blank::Blank;
 
 // The first `len` places are its entries, in order of arrival. No more are in use than the 4,096 that count, and all the others are blank.
+// No Model: clauses speak of the entries and of the slice that is lent, which a view of the entries would hide.
 // A slice with a length, and no Vec: the table is lent, and its caller gets every place of it back blank.
 #[derive(Drop)]
 pub struct Trail<'a, T: Blank> {
