@@ -43,7 +43,7 @@ fn expect(
     Ok(())
 }
 
-// Does one line and compares its answer, if it has one.
+// Does one line and compares its answer, if it has one. An arm each: an answer and a refusal have words of their own.
 fn compare(
     rt: &(impl Print + AllocGlobal),
     console: &mut Console,

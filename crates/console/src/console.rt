@@ -3,7 +3,7 @@ use crate::opening::Pile;
 use gate::gate::Gate;
 use std::alloc::Global;
 
-// The gates that a job has opened, in the order of opening, and which of them is current; while none is open, nothing stands there. Clauses see it by `desk_of`, for the reason that a gate gives.
+// The gates that a job has opened, in the order of opening, and which of them is current. That is no Option: while no gate is open, nothing stands at the place, and an Option would be asked once more. Clauses see it by `desk_of`, for the reason that a gate gives.
 #[derive(Drop)]
 pub struct Console {
     pub(crate) heap: Global,

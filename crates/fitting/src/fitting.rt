@@ -59,6 +59,7 @@ fn from_fact(
         )),
         (Rule::FactsClash, True, _, Operand::Fact(other @ Fact { sign: False, .. }, _))
             if fact.row == other.row && fact.world == other.world => Ok(Move::Close),
+        // A literal: with `Reason::at` it was tried, and the proof did not close.
         _ => Err(Denial {
             reason: Reason::NeedsDoNotFit,
             place: line,
@@ -101,6 +102,7 @@ fn from_link(
             if link.row == other.row && link.from == other.from && link.to == other.to => Ok(
             Move::Close,
         ),
+        // A literal: with `Reason::at` it was tried, and the proof did not close.
         _ => Err(Denial {
             reason: Reason::NeedsDoNotFit,
             place: line,
@@ -119,6 +121,7 @@ pub fn fitting(rule: Rule, cited: Cited, next: NextWorlds, line: u64) -> Result<
         (Rule::CiteSaying, Operand::Entry(row), _) => Ok(Move::AddFact(Fact::new(True, row, 0))),
         (_, Operand::Fact(fact, form), _) => from_fact(rule, fact, form, cited, next, line),
         (_, Operand::Link(link, form), _) => from_link(rule, link, form, cited, next, line),
+        // A literal: with `Reason::at` it was tried, and the proof did not close.
         _ => Err(Denial {
             reason: Reason::NeedsDoNotFit,
             place: line,

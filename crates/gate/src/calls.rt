@@ -59,7 +59,7 @@ impl<B: Book> Gate<B> {
         self.names.principal(form, x, y)
     }
 
-    // Names a statement by its form and operands, and answers its row number.
+    // Names a statement by its form and operands, and answers its row number. A call for each kind, as a job names them; form and operands come one by one, as a caller has them.
     pub fn statement(&mut self, form: u8, x: u16, y: u16) -> Result<u16, Denial>
         ensures answer { result ≡ statement_call (state B.Book self.old) form x y }
         ensures after { state B.Book self.new ≡ statement_left (state B.Book self.old) form x y }

@@ -15,7 +15,7 @@ use rules::branch::{Fact, Fork, Link};
 use tableau::proving::walk;
 
 impl<B: Book> Gate<B> {
-    // Checks a proof file with three lent tables, of which the first 4,096 places count, and issues nothing. Answers the row of the request if the file keeps the rules, or the first denial; the tables are blank afterwards, every place of them.
+    // Checks a proof file with three lent tables, of which the first 4,096 places count, and issues nothing. The tables come one by one, as callers hold them. Answers the row of the request if the file keeps the rules, or the first denial; the tables are blank afterwards, every place of them.
     pub fn check(
         &self,
         file: &[u8],

@@ -2,7 +2,7 @@
 use terms::names::Names;
 
 // A gate over any book. The fitter gives each gate a number of its own.
-// Clauses see it by `state` and no Model: what a book means holds functions, which the value of a view may not.
+// Clauses see it by `state` and no Model, which was tried on the console: what a book means holds functions, and the value of a view may not.
 #[derive(Clone, Copy, Drop)]
 pub struct Gate<B> {
     pub(crate) number: u32,

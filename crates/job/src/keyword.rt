@@ -1,4 +1,4 @@
-// The words that begin a command: spelled here, and matched where the rest of the line is read.
+// The words that begin a command: spelled here, and matched where the rest is read. A table of functions would hide that what follows each word differs.
 ghost use Rattle.std.specs.Prelude.{◌≡◌};
 ghost use Rattle.job.specs.Keywords.{keyword};
 

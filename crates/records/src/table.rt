@@ -8,7 +8,7 @@ use crate::records::{find, shift_in, shift_out};
 use book::entry::Entry;
 use denials::denial::{Denial, Reason};
 
-// The entry of a serial among the records in use. Each arm rests on what `find` says of its answer, which `ok` and `map` would hide from the proof.
+// The entry of a serial among the records in use. With `ok` and `map` it was tried, and the proof did not close: they hide what `find` says of its answer.
 pub(crate) fn look_up(in_use: &[Entry], serial: u16) -> Option<Entry>
     requires { InUse in_use.now }
     ensures { result ≡ held in_use.now (length in_use.now) serial }
@@ -58,7 +58,7 @@ pub(crate) fn put_in(
     }
 }
 
-// Strikes a serial in the first `size` records, of which `count` are in use.
+// Strikes a serial in the first `size` records, of which `count` are in use. They go side by side, as for filing.
 pub(crate) fn take_out(
     records: &mut [Entry],
     count: &mut usize,

@@ -21,7 +21,7 @@ pub struct Places {
     pub links: u16,
     pub worlds: u16,
     pub forks: u16,
-    // a flag and no enum, for whoever tells a line by its code alone: a line that closes takes no place, and the test for free places reads its four counts like any other's
+    // a flag and no enum, for whoever tells a line by its code alone: a line that closes takes no place, and the test for free places reads its four counts like any other's. `takes` promises it; nothing here reads it
     pub closes: bool,
 }
 

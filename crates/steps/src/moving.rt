@@ -10,7 +10,7 @@ use rules::table::Places;
 // A branch has no more worlds than this.
 const WORLDS: u32 = 1024;
 
-// Whether a line finds its places where so many facts, links and forks can still be added.
+// Whether a line finds its places where so many facts, links and forks can still be added. The numbers come one by one, as each trail tells its own.
 fn fits_in(places: Places, facts: usize, links: usize, forks: usize, worlds: u16) -> bool
     ensures { result ≡ (nat_le places.facts facts && (nat_le places.links links && (nat_le (worlds + places.worlds) 1024 && nat_le places.forks forks))) }
 {
