@@ -12,7 +12,7 @@ pub const SHEET_SIZE: usize = 64;
 pub struct Sheet {
     count: usize,
     serials: [u16; SHEET_SIZE],
-    ghost sound: { SheetSound serials count },
+    pub ghost sound: { SheetSound serials count },
 }
 
 impl Sheet {

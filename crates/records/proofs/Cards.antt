@@ -117,7 +117,7 @@ module _ (xs : List Entry) (sound : CardSound xs) where
       (λ (other : serial_at xs k ≡ suc k → ⊥). absurd (used (ap (λ e. e.serial) (sound.own k lt other))))
       (cases_eq (serial_at xs k) (suc k))
 
-  card_next :
+  pub card_next :
       (s k : ℕ) → s ≤ k → k < 256 → (serial_at xs k ≡ 0 → ⊥) → ((j : ℕ) → s ≤ j → j < k → serial_at xs j ≡ 0) →
       Some (get_or xs k blank) ≡ next_after (card_live xs) s
   card_next s k from lt used passed =
@@ -131,7 +131,7 @@ module _ (xs : List Entry) (sound : CardSound xs) where
         between = λ t lo hi. card_hidden xs t (λ bears. omega (arith, passed (t - 1) (omega arith) (omega arith)));
       })
 
-  card_no_next : (s : ℕ) → ((j : ℕ) → s ≤ j → j < 256 → serial_at xs j ≡ 0) → None ≡ next_after (card_live xs) s
+  pub card_no_next : (s : ℕ) → ((j : ℕ) → s ≤ j → j < 256 → serial_at xs j ≡ 0) → None ≡ next_after (card_live xs) s
   card_no_next s passed =
       next_is (card_live xs) (card_orderly xs sound) s None
       (λ t lo.
@@ -250,7 +250,7 @@ module _ (xs : List Entry) (sound : CardSound xs) where
 
   -- ---- striking
 
-  card_alive : (s : ℕ) → is_some (card_live xs s) ≡ true → (s ≡ 0 → ⊥) × (s ≤ 256)
+  pub card_alive : (s : ℕ) → is_some (card_live xs s) ≡ true → (s ≡ 0 → ⊥) × (s ≤ 256)
   card_alive s live = (
     λ z. both_ways _ (ap is_some (cond-true _ _ _ (eq-eqb s 0 z))) live,
     ⊎_elim

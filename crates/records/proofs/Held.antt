@@ -44,7 +44,7 @@ module _ (xs : List Entry) where
       ]
 
 module _ (xs : List Entry) (in_use : InUse xs) where
-  next_held :
+  pub next_held :
       (s at : ℕ) → Placed xs (length xs) (s + 1) at → at < length xs → Some (get_or xs at blank) ≡ next_after (held xs (length xs)) s
   next_held s at placed lt =
       next_is (held xs (length xs)) (in_use_orderly xs in_use) s (Some (get_or xs at blank))
@@ -56,7 +56,7 @@ module _ (xs : List Entry) (in_use : InUse xs) where
             (λ k lk e. let same = λ (q : k ≡ at). ap (serial_at xs) q in grind (arith, same, placed.before k, in_use.rising at k));
       })
 
-  next_none : (s at : ℕ) → Placed xs (length xs) (s + 1) at → length xs ≤ at → None ≡ next_after (held xs (length xs)) s
+  pub next_none : (s at : ℕ) → Placed xs (length xs) (s + 1) at → length xs ≤ at → None ≡ next_after (held xs (length xs)) s
   next_none s at placed le =
       next_is (held xs (length xs)) (in_use_orderly xs in_use) s None
       (λ t lo. held_none xs (length xs) t (λ k lk e. omega (arith, placed.before k (omega arith))))

@@ -15,7 +15,7 @@ pub const LAST_CARD: u16 = 256;
 #[derive(Clone, Copy)]
 pub struct CardBook {
     cards: [Entry; 256],
-    ghost sound: { CardSound cards },
+    pub ghost sound: { CardSound cards },
 }
 
 impl CardBook {

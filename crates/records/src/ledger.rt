@@ -17,7 +17,7 @@ pub const LEDGER_SIZE: usize = 1024;
 pub struct Ledger<'a> {
     count: usize,
     records: &'a mut [Entry],
-    ghost sound: { LedgerSound records.now count },
+    pub ghost sound: { LedgerSound records.now count },
 }
 
 impl<'a> Ledger<'a> {

@@ -19,7 +19,7 @@ pub struct OwnedLedger {
     size: usize,
     count: usize,
     records: [Entry; LEDGER_SIZE],
-    ghost sound: { OwnedSound records size count },
+    pub ghost sound: { OwnedSound records size count },
 }
 
 impl OwnedLedger {

@@ -13,7 +13,7 @@ pub struct Tableau<'f, 'l, 'k> {
     pub branch: OpenBranch<'f, 'l>,
     pub forks: Trail<'k, Fork>,
     pub complete: bool,
-    ghost fit: { ForksFit (limits_of branch forks) (forks_of forks) } by { fits_once (limits_of branch forks) (forks_of forks) },
+    pub ghost fit: { ForksFit (limits_of branch forks) (forks_of forks) } by { fits_once (limits_of branch forks) (forks_of forks) },
 }
 
 impl<'f, 'l, 'k> Tableau<'f, 'l, 'k> {

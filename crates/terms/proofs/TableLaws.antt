@@ -25,7 +25,7 @@ past_all n m e = grind (arith, nat_tests)
 pub none_past : {R : Type 0} (is : R → Bool) (rows : List R) → position is rows ≡ None → length rows ≤ position_or_len is rows
 none_past is rows none = past_all (position_or_len is rows) (length rows) none
 
-absent : {R : Type 0} (is : R → Bool) (rows : List R) (i : ℕ) (r : R) → position is rows ≡ None → slice_get rows i ≡ Some r → is r ≡ false
+pub absent : {R : Type 0} (is : R → Bool) (rows : List R) (i : ℕ) (r : R) → position is rows ≡ None → slice_get rows i ≡ Some r → is r ≡ false
 absent is rows i r none e =
     let before : i < position_or_len is rows = omega (arith, slice_get_within rows i r e, none_past is rows none) in
     ap is (sym (get_or_from_slice_get rows i r r e)) ∙ fails_before_first is rows i r before

@@ -10,7 +10,7 @@ use crate::blank::Blank;
 pub struct Trail<'a, T: Blank> {
     pub(crate) places: &'a mut [T],
     pub(crate) len: usize,
-    ghost sound: { Sound T.blank places.now len },
+    pub ghost sound: { Sound T.blank places.now len },
 }
 
 impl<'a, T: Blank> Trail<'a, T> {
