@@ -60,7 +60,7 @@ impl Console {
         if self.gates.len() >= GATES {
             return Err(Fault::NinthGate.into());
         }
-        // A match, and no `?`, which would first write a whole gate's place for the denial: a denied opening took a third longer.
+        // A match, and no `?`, which would first blank a whole gate's place for the denial: a denied opening took longer by a fifth to a third.
         match open_gate(opening) {
             Ok(gate) => self.admit(gate),
             Err(denial) => Err(denial.into()),
